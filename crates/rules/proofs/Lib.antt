@@ -1,0 +1,4 @@
+-- Laws of the words of specs/, for every crate's proofs.
+pub mod All
+pub mod First
+pub mod Order

@@ -1,0 +1,3 @@
+-- What the other crates' definitions are written in.
+pub mod Tests
+pub mod Papers
