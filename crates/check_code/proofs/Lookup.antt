@@ -1,0 +1,16 @@
+-- The table's rule at each lookup.
+-- Assumes nothing.
+use mathlib.Core.Path.{_≡_, ap, sym, _∙_}
+use Prim.Native.Nat.{ℕ, zero, suc, _+_, _<_}
+use native.Mathlib.Nat.{add-zero, zero-add, add-suc, suc-add, le-of-suc-le-suc, not-suc-le-zero}
+use lib.ListN.{getD}
+use Rattle.check_code.specs.CheckCode.{run, shifted8, tableOf}
+
+run-at : (f : ℕ → ℕ) (n i k : ℕ) → k < n → getD (run f n i) k 0 ≡ f (i + k)
+run-at f zero i k h = absurd (not-suc-le-zero h)
+run-at f (suc n) i zero h = ap f (sym (add-zero i))
+run-at f (suc n) i (suc k) h = run-at f n (suc i) k (le-of-suc-le-suc h) ∙ ap f (suc-add i k ∙ sym (add-suc i k))
+
+pub entry-is : (k : ℕ) → k < 256 → getD tableOf k 0 ≡ shifted8 k
+unfolding tableOf
+entry-is k h = run-at shifted8 256 0 k h ∙ ap shifted8 (zero-add k)

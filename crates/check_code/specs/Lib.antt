@@ -1,0 +1,2 @@
+-- The check code.
+pub mod CheckCode

@@ -1,0 +1,18 @@
+-- `packet::tests::header_bits` meets its contract.
+-- Assumes nothing.
+use Prim.Native.Nat.{ℕ, _/_}
+use lib.Dec.{eqb}
+use mathlib.Core.Path.{_∙_, ap}
+use borrow.Author.Needs.{needs}
+use Rattle.words.specs.Words.{number}
+use Rattle.packet.specs.Packet.{headerBits}
+use Rattle.packet.proofs.Bits.{bits-are}
+use Rattle.packet.proofs.tests.header_bits.Statement.{statement}
+use Rattle.packet.proofs.tests.header_bits.Tie as tie
+
+returns : tie.Need-returns
+unfolding headerBits
+returns c = ap (λ (x : ℕ). eqb (x / 2048) 3) (c .read .ensures .same) ∙ bits-are (number 2 0 (c .before .before .args .bytes .now))
+
+pub header-bits-spec : {M : Type 1} → statement M
+header-bits-spec = tie.close (tie.spec (λ c κs. search needs) returns)

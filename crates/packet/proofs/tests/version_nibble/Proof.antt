@@ -1,0 +1,14 @@
+-- `packet::tests::version_nibble` meets its contract.
+-- Assumes nothing.
+use mathlib.Core.Path.{refl}
+use borrow.Author.Needs.{needs}
+use Rattle.packet.specs.Packet.{versionNibble}
+use Rattle.packet.proofs.tests.version_nibble.Statement.{statement}
+use Rattle.packet.proofs.tests.version_nibble.Tie as tie
+
+returns : tie.Need-returns
+unfolding versionNibble
+returns c = refl
+
+pub version-nibble-spec : {M : Type 1} → statement M
+version-nibble-spec = tie.close (tie.spec (λ c. search needs) returns)

@@ -1,0 +1,2 @@
+-- Telecommand packets.
+pub mod Packet

@@ -1,0 +1,2 @@
+-- Time stamps.
+pub mod Stamp

@@ -1,0 +1,42 @@
+-- How large a signed result can be.
+-- Assumes nothing.
+use mathlib.Core.Path.{_≡_, refl, sym, ap, ap₂, _∙_}
+use mathlib.Core.Bool.{Bool, true, false, cond}
+use Prim.Native.Nat.{ℕ, zero, suc, _+_, _-_, _*_, _^_, _≤_, _<_}
+use native.Mathlib.Nat.{mul-le-mul-right, le-suc, le-of-lt}
+use native.Mathlib.Omega.{arith}
+use lib.Dec.{T, ltb, ltb→lt, le→leb, lt→ltb}
+use lib.IntN.{ℤ, pos, negsuc, negℤ, subℕ, _+ℤ_, _-ℤ_, _*ℤ_}
+use lib.Signed.{mag, ltZ}
+use borrow.Author.Tests.{lt-ltb, le-ltb, ltb-true, ltb-false}
+use mir.Syntax.{w64}
+use mir.Val.{SFits, toZ, ofZ}
+use mir.Facts.{toZ-ofZ}
+use Rattle.time.specs.Time.{secsInRange, biased}
+use Rattle.time.proofs.Signed.{secs-fit}
+use Rattle.time.proofs.Test.{same-test}
+
+pub mag-sub : (a b : ℕ) → mag (subℕ a b) ≤ a + b
+mag-sub a b = go (ltb a b)
+  where
+    go : (t : Bool) → mag (cond t (negsuc (b - suc a)) (pos (a - b))) ≤ a + b
+    go true = omega arith
+    go false = omega arith
+
+mag-neg : (x : ℕ) → mag (negℤ (pos x)) ≤ x
+mag-neg zero = omega arith
+mag-neg (suc n) = omega arith
+
+pub mag-add : (y z : ℤ) → mag (y +ℤ z) ≤ mag y + mag z + 1
+mag-add (pos a) (pos b) = omega arith
+mag-add (pos a) (negsuc b) = omega (arith, mag-sub a (suc b))
+mag-add (negsuc a) (pos b) = omega (arith, mag-sub b (suc a))
+mag-add (negsuc a) (negsuc b) = omega arith
+
+pub mag-mul : (y : ℤ) (n : ℕ) → mag (y *ℤ pos n) ≤ suc (mag y) * n
+mag-mul (pos a) n = mul-le-mul-right n (le-suc a)
+mag-mul (negsuc a) n = mag-neg (suc a * n)
+
+pub small-ok : (z : ℤ) → mag z < 4398046511104 → T (secsInRange z)
+small-ok (pos n) h = le→leb n 4398046511104 (le-of-lt h)
+small-ok (negsuc n) h = lt→ltb n 4398046511104 h

@@ -1,0 +1,2 @@
+-- Times and margins.
+pub mod Time

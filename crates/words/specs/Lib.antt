@@ -1,0 +1,2 @@
+-- Numbers of several bytes.
+pub mod Words
