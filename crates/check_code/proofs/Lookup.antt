@@ -1,10 +1,10 @@
 -- The table's rule at each lookup.
 -- Assumes nothing.
-use mathlib.Core.Path.{_≡_, ap, sym, _∙_}
-use Prim.Native.Nat.{ℕ, zero, suc, _+_, _<_}
-use native.Mathlib.Nat.{add-zero, zero-add, add-suc, suc-add, le-of-suc-le-suc, not-suc-le-zero}
-use lib.ListN.{getD}
+use Prim.Native.Nat.{_+_, _<_, suc, zero, ℕ}
 use Rattle.check_code.specs.CheckCode.{run, shifted8, tableOf}
+use lib.ListN.{getD}
+use mathlib.Core.Path.{_∙_, _≡_, ap, sym}
+use native.Mathlib.Nat.{add-suc, add-zero, le-of-suc-le-suc, not-suc-le-zero, suc-add, zero-add}
 
 run-at : (f : ℕ → ℕ) (n i k : ℕ) → k < n → getD (run f n i) k 0 ≡ f (i + k)
 run-at f zero i k h = absurd (not-suc-le-zero h)

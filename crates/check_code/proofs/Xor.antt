@@ -1,14 +1,14 @@
 -- What the table rests on: a number below half the range goes through a shift unchanged but for moving up, so a low byte does through eight.
 -- Assumes nothing.
-use mathlib.Core.Path.{_≡_, refl, sym, ap, ap₂, _∙_}
-use Prim.Native.Nat.{ℕ, zero, suc, _+_, _*_, _/_, _%_, _^_, _<_, _≤_}
-use native.Mathlib.Nat.{mul-one, lt-of-lt-of-le, mul-assoc, mul-comm, add-zero, div-add-mod', pow-suc}
-use native.Mathlib.Omega.{arith}
-use lib.Dec.{lit<, lit≤}
+use Prim.Native.Nat.{_%_, _*_, _+_, _/_, _<_, _^_, _≤_, suc, zero, ℕ}
+use Rattle.check_code.specs.CheckCode.{feed, shift, shifted8, shifts}
 use lib.Arith.{bin-ind, digits-mod}
+use lib.Bits.{bitXor, differ, xor-block, xor-comm, xor-mod, xor-shifted, xor-shr, xor-step, xor-zero-r}
+use lib.Dec.{lit<, lit≤}
 use lib.Pow.{pow-mono}
-use lib.Bits.{bitXor, differ, xor-step, xor-shr, xor-mod, xor-zero-r, xor-comm, xor-block, xor-shifted}
-use Rattle.check_code.specs.CheckCode.{shift, shifts, shifted8, feed}
+use mathlib.Core.Path.{_∙_, _≡_, ap, ap₂, refl, sym}
+use native.Mathlib.Nat.{add-zero, div-add-mod', lt-of-lt-of-le, mul-assoc, mul-comm, mul-one, pow-suc}
+use native.Mathlib.Omega.{arith}
 
 differ-assoc : (p q r : ℕ) → p < 2 → q < 2 → r < 2 → differ (differ p q) r ≡ differ p (differ q r)
 differ-assoc zero q r hp hq hr = refl

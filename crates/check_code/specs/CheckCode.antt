@@ -1,8 +1,8 @@
 -- The check code, one bit at a time (document 01, module 1; ECSS-E-ST-70-41C's packet error control): CRC-16 with the
 -- polynomial 0x1021, from 0xFFFF, high bit first, nothing reflected, no final exclusive-or.
-use Prim.Native.Nat.{ℕ, zero, suc, _*_, _/_, _%_}
-use mathlib.Core.List.{List, [], _∷_}
+use Prim.Native.Nat.{_%_, _*_, _/_, suc, zero, ℕ}
 use lib.Bits.{bitXor}
+use mathlib.Core.List.{List, [], _∷_}
 
 -- one bit: the top bit of sixteen falls out, the rest moves up, and the polynomial is added where that bit was set
 unfoldable pub shift : ℕ → ℕ

@@ -1,14 +1,14 @@
 -- Version 0, type 1 and secondary header flag 1 are one test on the first two bytes.
 -- Assumes nothing.
-use Prim.Native.Nat.{ℕ, _/_, _%_}
+use Prim.Native.Nat.{_%_, _/_, ℕ}
+use Rattle.rules.proofs.All.{all-each, each-all, fails}
+use Rattle.rules.specs.Tests.{allOf}
+use borrow.Author.Tests.{eq-eqb, eqb-false, eqb-true}
+use lib.Dec.{eqb}
 use mathlib.Core.Bool.{Bool, false, true}
 use mathlib.Core.List.{[], _∷_}
 use mathlib.Core.Path.{_≡_, refl, sym}
 use native.Mathlib.Omega.{arith}
-use lib.Dec.{eqb}
-use borrow.Author.Tests.{eq-eqb, eqb-false, eqb-true}
-use Rattle.rules.proofs.All.{all-each, each-all, fails}
-use Rattle.rules.specs.Tests.{allOf}
 
 pub bits-are : (x : ℕ) → eqb (x / 2048) 3 ≡ allOf (eqb (x / 8192) 0 ∷ eqb (x / 4096 % 2) 1 ∷ eqb (x / 2048 % 2) 1 ∷ [])
 bits-are x = go (eqb (x / 2048) 3) refl

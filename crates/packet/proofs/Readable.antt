@@ -1,20 +1,20 @@
 -- What a reading says of the bytes: a packet is readable exactly if all five tests pass, whatever their order.
 -- Assumes nothing.
-use Prim.Native.Nat.{ℕ, _+_, _-_, _≤_}
-use native.Mathlib.Nat.{zero-add}
-use mathlib.Core.Bool.{true}
-use mathlib.Core.List.{List, []}
-use mathlib.Core.Path.{_≡_, _∙_, ap, sym}
-use native.Mathlib.Omega.{arith}
-use lib.ListN.{drop, length, take}
-use borrow.Author.Tests.{leb-true}
+use Prim.Native.Nat.{_+_, _-_, _≤_, ℕ}
+use Rattle.packet.specs.Packet.{HandsBack, checkBytes, dataAt, dataFrom, dataOf, headerBits, headerOf, longEnough, readOf, shortest, totalInBounds, totalOf, versionNibble}
 use Rattle.rules.proofs.All.{all-each}
 use Rattle.rules.proofs.Order.{passed}
 use Rattle.rules.specs.Tests.{unless}
+use borrow.Author.Tests.{leb-true}
+use lib.ListN.{drop, length, take}
+use mathlib.Core.Bool.{true}
+use mathlib.Core.List.{List, []}
+use mathlib.Core.Path.{_∙_, _≡_, ap, sym}
+use native.Mathlib.Nat.{zero-add}
+use native.Mathlib.Omega.{arith}
 use Rattle.packet.specs.declared.Fault.{Fault}
 use Rattle.packet.specs.declared.Header.{Header}
 use Rattle.packet.specs.declared.Reading.the-variants.{Packet, Unreadable}
-use Rattle.packet.specs.Packet.{HandsBack, checkBytes, dataAt, dataFrom, dataOf, headerBits, headerOf, longEnough, readOf, shortest, totalInBounds, totalOf, versionNibble}
 
 pub record Readable (w : ℕ) (s : List ℕ) : Type 0 where
   pub long : longEnough w s ≡ true

@@ -1,14 +1,14 @@
 -- Which bytes are a telecommand packet, and what it says (document 01, module 2; CCSDS 133.0-B, the primary header in bytes 0 to 5;
 -- ECSS-E-ST-70-41C, the secondary header from byte 6 on). `w` is the width of the source ID in bytes: 2 in this edition.
-use Prim.Native.Nat.{ℕ, _+_, _-_, _*_, _/_, _%_}
-use mathlib.Core.Bool.{Bool}
-use mathlib.Core.List.{List, [], _∷_}
-use mathlib.Core.Path.{_≡_}
-use lib.Dec.{eqb, leb}
-use lib.ListN.{drop, getD, length, take}
+use Prim.Native.Nat.{_%_, _*_, _+_, _-_, _/_, ℕ}
 use Rattle.check_code.specs.CheckCode.{checkCode}
 use Rattle.rules.specs.Tests.{allOf, unless}
 use Rattle.words.specs.Words.{number}
+use lib.Dec.{eqb, leb}
+use lib.ListN.{drop, getD, length, take}
+use mathlib.Core.Bool.{Bool}
+use mathlib.Core.List.{List, [], _∷_}
+use mathlib.Core.Path.{_≡_}
 use Rattle.packet.specs.declared.Fault.the-variants.{Length, Total, HeaderBits, VersionNibble, CheckBytes}
 use Rattle.packet.specs.declared.Header.{Header}
 use Rattle.packet.specs.declared.Reading.{Reading}

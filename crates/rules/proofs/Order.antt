@@ -1,11 +1,9 @@
 -- An order of refusals, read back: what came of a column of `unless` says which tests passed.
 -- Assumes nothing.
-use Prim.Native.Nat.{ℕ}
-use Rattle.rules.specs.Papers.{Outcome, Paper, after, done, refused, says}
+use Rattle.rules.specs.Papers.{Outcome, after, done, refused, says}
 use Rattle.rules.specs.Tests.{unless}
 use mathlib.Core.Bool.{Bool, false, true}
-use mathlib.Core.List.{List}
-use mathlib.Core.Path.{_≡_, ap, refl}
+use mathlib.Core.Path.{_≡_, refl}
 
 -- where the outcome is not the refusal, the test passed
 pub passed : {A : Type 0} (b : Bool) (bad x y : A) → (bad ≡ y → ⊥) → unless b bad x ≡ y → (b ≡ true) × (x ≡ y)

@@ -1,15 +1,15 @@
 -- What a time stamp says (document 01, module 3; CCSDS 301.0-B, section 3.3, the day segmented code with its epoch at 1958).
-use Prim.Native.Nat.{ℕ, _+_, _*_, _/_, _%_}
+use Prim.Native.Nat.{_%_, _*_, _+_, _/_, ℕ}
+use Rattle.rules.specs.Tests.{unless}
+use Rattle.time.specs.Time.{InRange}
+use Rattle.words.specs.Words.{number}
+use lib.Dec.{eqb, leb}
+use lib.IntN.{_*ℤ_, _+ℤ_, _-ℤ_, pos, ℤ}
+use lib.ListN.{getD, length}
 use mathlib.Core.Bool.{cond}
 use mathlib.Core.List.{List}
 use mathlib.Core.Path.{_≡_}
-use lib.Dec.{eqb, leb}
-use lib.IntN.{ℤ, pos, _+ℤ_, _-ℤ_, _*ℤ_}
-use lib.ListN.{getD, length}
-use Rattle.rules.specs.Tests.{unless}
-use Rattle.time.specs.Time.{InRange}
 use Rattle.time.specs.declared.UnixTime.{UnixTime}
-use Rattle.words.specs.Words.{number}
 use Rattle.stamp.specs.declared.Stamp.{Stamp}
 use Rattle.stamp.specs.declared.Stamp.the-variants.{At, Refused}
 

@@ -1,9 +1,9 @@
 -- Seconds and nanoseconds from one number and back, and clock + margin with its carry.
 -- Assumes nothing.
-use Prim.Native.Nat.{ℕ, _+_, _-_, _*_, _<_, _≤_}
-use mathlib.Core.Path.{_≡_, ap₂, sym}
-use native.Mathlib.Omega.{arith}
+use Prim.Native.Nat.{_*_, _+_, _-_, _<_, _≤_, ℕ}
 use Rattle.time.specs.Time.{giga, instantOf, momentAt}
+use mathlib.Core.Path.{_≡_, ap₂}
+use native.Mathlib.Omega.{arith}
 use Rattle.time.specs.declared.Moment.{Moment}
 
 abbrev pub moment : ℕ → ℕ → Moment

@@ -1,11 +1,11 @@
 -- A time or margin that was judged in range, as facts.
 -- Assumes nothing.
-use lib.Dec.{T, leb, ltb}
-use borrow.Author.Tests.{leb-true, ltb-true}
-use mathlib.Core.Bool.{true}
-use mathlib.Core.Path.{_≡_, subst, sym}
 use Rattle.rules.proofs.All.{and-left, and-right}
 use Rattle.time.specs.Time.{InRange, MarginInRange, giga, inRange, marginInRange, secsInRange}
+use borrow.Author.Tests.{leb-true, ltb-true}
+use lib.Dec.{T, leb, ltb}
+use mathlib.Core.Bool.{true}
+use mathlib.Core.Path.{_≡_, subst, sym}
 use Rattle.time.specs.declared.Margin.{Margin}
 use Rattle.time.specs.declared.UnixTime.{UnixTime}
 

@@ -1,17 +1,17 @@
 -- The signed seconds, and their unsigned count from -2^42.
 -- Assumes nothing.
-use mathlib.Core.Path.{_≡_, refl, sym, ap, _∙_, subst}
-use mathlib.Core.Bool.{Bool, true, false, cond}
-use Prim.Native.Nat.{ℕ, suc, _+_, _-_, _^_, _≤_, _<_}
-use native.Mathlib.Omega.{arith}
-use lib.Dec.{T, leb, ltb, leb→le, ltb→lt, lt→ltb, le→leb}
-use lib.IntN.{ℤ, pos, negsuc, _+ℤ_, _-ℤ_, +ℤ-negℤ-cancel}
-use lib.Signed.{ltZ}
-use borrow.Author.Tests.{le-ltb, lt-ltb, ltb-true, ltb-false, lt-leb, le-leb}
-use mir.Syntax.{w64}
-use mir.Val.{SFits, Fits, toZ, ofZ}
-use mir.Facts.{toZ-ofZ}
+use Prim.Native.Nat.{_-_, _<_, _^_, _≤_, suc, ℕ}
 use Rattle.time.specs.Time.{InRange, biased, far, giga, momentOf, secsInRange, timeOf}
+use borrow.Author.Tests.{le-leb, le-ltb, lt-leb, lt-ltb, ltb-false, ltb-true}
+use lib.Dec.{T, leb→le, le→leb, ltb, ltb→lt, lt→ltb}
+use lib.IntN.{+ℤ-negℤ-cancel, _+ℤ_, _-ℤ_, negsuc, pos, ℤ}
+use lib.Signed.{ltZ, mag}
+use mathlib.Core.Bool.{Bool, cond, false, true}
+use mathlib.Core.Path.{_∙_, _≡_, ap, refl, subst, sym}
+use mir.Facts.{toZ-ofZ}
+use mir.Syntax.{w64}
+use mir.Val.{SFits, ofZ, toZ}
+use native.Mathlib.Omega.{arith}
 use Rattle.time.specs.declared.Moment.{Moment}
 use Rattle.time.specs.declared.UnixTime.{UnixTime}
 

@@ -1,20 +1,13 @@
 -- How large a signed result can be.
 -- Assumes nothing.
-use mathlib.Core.Path.{_≡_, refl, sym, ap, ap₂, _∙_}
-use mathlib.Core.Bool.{Bool, true, false, cond}
-use Prim.Native.Nat.{ℕ, zero, suc, _+_, _-_, _*_, _^_, _≤_, _<_}
-use native.Mathlib.Nat.{mul-le-mul-right, le-suc, le-of-lt}
+use Prim.Native.Nat.{_*_, _+_, _-_, _<_, _≤_, suc, zero, ℕ}
+use Rattle.time.specs.Time.{secsInRange}
+use lib.Dec.{T, le→leb, ltb, lt→ltb}
+use lib.IntN.{_*ℤ_, _+ℤ_, negsuc, negℤ, pos, subℕ, ℤ}
+use lib.Signed.{mag}
+use mathlib.Core.Bool.{Bool, cond, false, true}
+use native.Mathlib.Nat.{le-of-lt, le-suc, mul-le-mul-right}
 use native.Mathlib.Omega.{arith}
-use lib.Dec.{T, ltb, ltb→lt, le→leb, lt→ltb}
-use lib.IntN.{ℤ, pos, negsuc, negℤ, subℕ, _+ℤ_, _-ℤ_, _*ℤ_}
-use lib.Signed.{mag, ltZ}
-use borrow.Author.Tests.{lt-ltb, le-ltb, ltb-true, ltb-false}
-use mir.Syntax.{w64}
-use mir.Val.{SFits, toZ, ofZ}
-use mir.Facts.{toZ-ofZ}
-use Rattle.time.specs.Time.{secsInRange, biased}
-use Rattle.time.proofs.Signed.{secs-fit}
-use Rattle.time.proofs.Test.{same-test}
 
 pub mag-sub : (a b : ℕ) → mag (subℕ a b) ≤ a + b
 mag-sub a b = go (ltb a b)

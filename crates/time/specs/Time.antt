@@ -1,8 +1,8 @@
 -- Times and margins: their ranges (document 01, "Sizes"), and each as one number of nanoseconds, by which all comparing is done.
-use Prim.Native.Nat.{ℕ, _+_, _-_, _*_, _/_, _%_, _≤_, _<_}
-use mathlib.Core.Bool.{Bool, _&&_}
+use Prim.Native.Nat.{_%_, _*_, _+_, _-_, _/_, _<_, _≤_, ℕ}
 use lib.Dec.{T, leb, ltb}
-use lib.IntN.{ℤ, pos, negsuc, _-ℤ_}
+use lib.IntN.{_-ℤ_, negsuc, pos, ℤ}
+use mathlib.Core.Bool.{Bool, _&&_}
 use Rattle.time.specs.declared.UnixTime.{UnixTime}
 use Rattle.time.specs.declared.Margin.{Margin}
 use Rattle.time.specs.declared.Moment.{Moment}

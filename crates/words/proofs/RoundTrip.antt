@@ -1,14 +1,14 @@
 -- Reading what was written gives the number back: at every width, wherever it was written.
 -- Assumes nothing.
-use mathlib.Core.Path.{_≡_, refl, sym, ap, ap₂, _∙_}
-use Prim.Native.Nat.{ℕ, zero, suc, _+_, _*_, _/_, _%_, _^_, _<_, _≤_}
-use native.Mathlib.Nat.{add-assoc, div-add-mod', pow-suc, zero-add}
-use native.Mathlib.Omega.{arith}
-use mathlib.Core.List.{List, [], _∷_, _++_}
-use lib.ListN.{length, drop, getD, take, List·getD-append, length-append}
-use lib.Seq.{getD-append-add, getD-at, length-take-le, sets, sets-eq}
-use Rattle.words.specs.Words.{bytesOf, number}
+use Prim.Native.Nat.{_%_, _*_, _+_, _/_, _<_, _^_, _≤_, suc, zero, ℕ}
 use Rattle.words.proofs.Sets.{length-bytes}
+use Rattle.words.specs.Words.{bytesOf, number}
+use lib.ListN.{List·getD-append, drop, getD, length, length-append, take}
+use lib.Seq.{getD-append-add, getD-at, length-take-le, sets, sets-eq}
+use mathlib.Core.List.{List, [], _++_, _∷_}
+use mathlib.Core.Path.{_∙_, _≡_, ap, ap₂, refl, sym}
+use native.Mathlib.Nat.{div-add-mod', pow-suc, zero-add}
+use native.Mathlib.Omega.{arith}
 
 -- lists that agree at k places give one number
 pub number-same : (k at bt : ℕ) (s t : List ℕ) → ((j : ℕ) → j < k → getD s (at + j) 0 ≡ getD t (bt + j) 0) → number k at s ≡ number k bt t

@@ -1,8 +1,8 @@
 -- Numbers of several bytes, high byte first: one definition over the width for reading, and one for writing.
 -- `lib.Seq.sets l at bs` is l with bs from `at` on, and all else as it was.
-use Prim.Native.Nat.{ℕ, zero, suc, _+_, _*_, _/_, _%_, _^_, _<_}
+use Prim.Native.Nat.{_%_, _*_, _+_, _/_, _<_, _^_, suc, zero, ℕ}
 use lib.ListN.{getD}
-use mathlib.Core.List.{List, [], _∷_, _++_}
+use mathlib.Core.List.{List, [], _++_, _∷_}
 use mathlib.Core.Path.{_≡_}
 
 -- the number that k bytes from `at` on are

@@ -1,9 +1,9 @@
 -- `check_code::index` meets its contract.
 -- Assumes nothing.
-use mathlib.Core.Path.{refl}
 use Prim.Native.Nat.{_/_, _<_}
-use native.Mathlib.Omega.{arith}
 use lib.Bits.{bitXor, xor-lt}
+use mathlib.Core.Path.{refl}
+use native.Mathlib.Omega.{arith}
 use Rattle.check_code.proofs.index.Statement.{statement}
 use Rattle.check_code.proofs.index.Tie as tie
 

@@ -1,17 +1,17 @@
 -- `check_code::of` meets its contract. The loop's invariant: what is left of the bytes, fed to the code so far, gives the code of all.
 -- Assumes nothing.
-use lib.Bits.{bitXor}
+use Prim.Native.Nat.{_%_, _*_, _+_, _-_, _/_, _<_, _≤_, ℕ}
 use Rattle.check_code.proofs.Lookup.{entry-is}
 use Rattle.check_code.proofs.Xor.{feed-by-table}
-use Prim.Native.Nat.{ℕ, _≤_, _<_, _+_, _-_, _*_, _/_, _%_}
-use mathlib.Core.Path.{_≡_, refl, sym, ap, _∙_}
+use Rattle.check_code.specs.CheckCode.{checkCode, feed, feedAll, shifted8, tableOf}
+use lib.Bits.{bitXor}
+use lib.ListN.{drop, drop-of-length-le, getD, length}
+use lib.Seq.{drop-cons}
 use mathlib.Core.List.{List}
+use mathlib.Core.Path.{_∙_, _≡_, ap, refl, sym}
 use native.Mathlib.Numerals.{add-one}
 use native.Mathlib.Omega.{arith}
 use borrow.Author.Needs.{needs}
-use lib.ListN.{length, drop, getD, drop-of-length-le}
-use lib.Seq.{drop-cons}
-use Rattle.check_code.specs.CheckCode.{feed, feedAll, checkCode, shifted8, tableOf}
 use Rattle.check_code.proofs.of.Statement.{statement}
 use Rattle.check_code.proofs.of.Tie as tie
 

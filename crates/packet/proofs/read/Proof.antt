@@ -1,13 +1,13 @@
 -- `packet::read` meets its contract: each test that was passed is one more line of `readOf`.
 -- Assumes nothing.
-use mathlib.Core.Bool.{true}
-use mathlib.Core.Path.{_≡_, _∙_, ap, sym}
-use borrow.Author.Needs.{needs}
-use borrow.Author.Tests.{le-leb, lt-leb, not-false, not-true}
-use Rattle.rules.specs.Tests.{unless}
-use Rattle.packet.specs.Packet.{checkBytes, headerBits, longEnough, readOf, totalInBounds, versionNibble}
-use Rattle.packet.specs.declared.Reading.the-variants.{Packet}
 use Rattle.packet.proofs.Readable.{readable-is}
+use Rattle.packet.specs.Packet.{checkBytes, headerBits, longEnough, readOf, totalInBounds, versionNibble}
+use Rattle.rules.specs.Tests.{unless}
+use borrow.Author.Tests.{le-leb, lt-leb, not-false, not-true}
+use mathlib.Core.Bool.{true}
+use mathlib.Core.Path.{_∙_, _≡_, ap, sym}
+use borrow.Author.Needs.{needs}
+use Rattle.packet.specs.declared.Reading.the-variants.{Packet}
 use Rattle.packet.proofs.read.Statement.{statement}
 use Rattle.packet.proofs.read.Tie as tie
 

@@ -1,8 +1,8 @@
 -- `packet::user_data` meets its contract.
 -- Assumes nothing.
+use Rattle.packet.proofs.Readable.{data-none}
 use mathlib.Core.Path.{_∙_, refl, sym}
 use borrow.Author.Needs.{needs}
-use Rattle.packet.proofs.Readable.{data-none}
 use Rattle.packet.proofs.user_data.Statement.{statement}
 use Rattle.packet.proofs.user_data.Tie as tie
 

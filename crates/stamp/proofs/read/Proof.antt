@@ -1,13 +1,13 @@
 -- `stamp::read` meets its contract: the first byte picks the width, and each width cites `read_width`.
 -- Assumes nothing.
-use mathlib.Core.Path.{_≡_, refl}
-use mathlib.Core.List.{List, [], _∷_}
-use Prim.Native.Nat.{ℕ, suc}
-use native.Mathlib.Omega.{arith}
-use lib.ListN.{length}
-use borrow.Author.Tests.{eq-eqb, ne-eqb}
-use Rattle.stamp.specs.declared.Stamp.the-variants.{Refused}
+use Prim.Native.Nat.{suc, ℕ}
 use Rattle.stamp.specs.Stamp.{stampOf}
+use borrow.Author.Tests.{eq-eqb, ne-eqb}
+use lib.ListN.{length}
+use mathlib.Core.List.{List, [], _∷_}
+use mathlib.Core.Path.{_≡_, refl}
+use native.Mathlib.Omega.{arith}
+use Rattle.stamp.specs.declared.Stamp.the-variants.{Refused}
 use borrow.Author.Needs.{needs}
 use Rattle.stamp.proofs.read.Statement.{statement}
 use Rattle.stamp.proofs.read.Tie as tie

@@ -1,15 +1,15 @@
 -- `stamp::read_width` meets its contract, at every width of the day up to three bytes: both forms cite this.
 -- Assumes nothing.
-use Prim.Native.Nat.{_+_, _≤_, _<_}
-use native.Mathlib.Omega.{arith}
-use borrow.Author.Needs.{needs}
-use borrow.Author.Tests.{le-leb, lt-leb}
-use mir.Facts.{toZ-ofZ}
+use Prim.Native.Nat.{_+_, _<_, _≤_}
 use Rattle.rules.specs.Tests.{unless}
 use Rattle.stamp.specs.Stamp.{stampAt}
 use Rattle.time.proofs.Signed.{secs-fit}
-use Rattle.words.proofs.Width.{within}
+use Rattle.words.proofs.Width.{widen}
 use Rattle.words.specs.Words.{number}
+use borrow.Author.Tests.{le-leb, lt-leb}
+use mir.Facts.{toZ-ofZ}
+use native.Mathlib.Omega.{arith}
+use borrow.Author.Needs.{needs}
 use Rattle.stamp.proofs.read_width.Statement.{statement}
 use Rattle.stamp.proofs.read_width.Tie as tie
 
@@ -26,7 +26,7 @@ returns-2 c =
 
 secs-requires : tie.Need-secs-requires
 secs-requires c κs =
-    (within 3 _ _ (c .before .before .before .before .before .pre) (c .before .before .read .ensures .below), c .if2 .left)
+    (widen 3 _ _ (c .before .before .before .before .before .pre) (c .before .before .read .ensures .below), c .if2 .left)
 
 returns-3 : tie.Need-returns-3
 unfolding stampAt unless

@@ -1,13 +1,13 @@
 -- `time::earliest_release` meets its contract: no sum wraps, and the carry goes to the seconds.
 -- Assumes nothing.
 use Prim.Native.Nat.{_+_, _<_, _≤_}
+use Rattle.time.proofs.Carry.{sum-carries, sum-stays}
+use Rattle.time.proofs.Signed.{biased-le}
+use Rattle.time.specs.Time.{biased, giga}
 use mathlib.Core.Path.{_≡_, ap}
 use native.Mathlib.Omega.{arith}
 use borrow.Author.Needs.{needs}
-use Rattle.time.specs.Time.{biased, giga}
 use Rattle.time.specs.declared.Moment.{Moment}
-use Rattle.time.proofs.Carry.{sum-carries, sum-stays}
-use Rattle.time.proofs.Signed.{biased-le}
 use Rattle.time.proofs.earliest_release.Statement.{statement}
 use Rattle.time.proofs.earliest_release.Tie as tie
 

@@ -1,11 +1,11 @@
 -- `time::in_time_margin` meets its contract: the two moments compare as their numbers do.
 -- Assumes nothing.
-use mathlib.Core.Path.{_∙_, ap, ap₂}
+use Rattle.time.proofs.Carry.{instant-at}
+use Rattle.time.specs.Time.{earliest, instantOf}
 use lib.Dec.{ltb}
+use mathlib.Core.Path.{_∙_, ap, ap₂}
 use native.Mathlib.Omega.{arith}
 use borrow.Author.Needs.{needs}
-use Rattle.time.specs.Time.{earliest, instantOf}
-use Rattle.time.proofs.Carry.{instant-at}
 use Rattle.time.proofs.in_time_margin.Statement.{statement}
 use Rattle.time.proofs.in_time_margin.Tie as tie
 

@@ -1,16 +1,14 @@
 -- `words::read` meets its contract. The loop's invariant: `v` is the number of the first `k` bytes, and below 2 ^ (8 * k).
 -- Assumes nothing.
-use mathlib.Core.Path.{_≡_, ap, sym, _∙_, subst}
-use Prim.Native.Nat.{ℕ, _+_, _*_, _-_, _^_, _≤_, _<_}
-use native.Mathlib.Nat.{lt-of-lt-of-le}
+use Prim.Native.Nat.{_*_, _+_, _-_, _<_, _^_, _≤_, ℕ}
+use Rattle.words.proofs.Width.{byte-more, widen}
+use Rattle.words.specs.Words.{Reads, number}
+use lib.ListN.{getD}
+use mathlib.Core.List.{List}
+use mathlib.Core.Path.{_≡_, subst}
 use native.Mathlib.Numerals.{add-one}
 use native.Mathlib.Omega.{arith}
-use lib.Pow.{pow-add, pow-mono}
-use lib.ListN.{length, getD}
-use mathlib.Core.List.{List}
 use borrow.Author.Needs.{needs}
-use Rattle.words.specs.Words.{Reads, number}
-use Rattle.words.proofs.Width.{byte-more, within}
 use Rattle.words.proofs.read.Statement.{statement}
 use Rattle.words.proofs.read.Tie as tie
 
@@ -34,7 +32,7 @@ unfolding number
 loop-holds c = search needs
 
 mul-v : tie.Need-mul-v Inv-loop μ-loop
-mul-v c = omega (arith, within 7 (c .before .loop .k) (c .before .loop .v) (omega arith) (c .before .loop .inv .2))
+mul-v c = omega (arith, widen 7 (c .before .loop .k) (c .before .loop .v) (omega arith) (c .before .loop .inv .2))
 
 add-wide : tie.Need-add-wide Inv-loop μ-loop
 add-wide c = omega arith
@@ -48,7 +46,7 @@ wide-requires c κs = search needs
 add-v : tie.Need-add-v Inv-loop μ-loop
 add-v c =
     let l = c .before .before .before .loop in
-    omega (arith, within 7 (l .k) (l .v) (omega arith) (l .inv .2), byte c)
+    omega (arith, widen 7 (l .k) (l .v) (omega arith) (l .inv .2), byte c)
 
 add-k : tie.Need-add-k Inv-loop μ-loop
 add-k c = omega arith

@@ -1,13 +1,14 @@
 -- `words::write` meets its contract. The loop's invariant: what is left to write makes of the bytes now what the whole makes of those at entry.
 -- Assumes nothing.
-use mathlib.Core.Path.{_≡_, ap, _∙_}
-use Prim.Native.Nat.{ℕ, _≤_}
-use borrow.Author.Needs.{needs}
-use native.Mathlib.Omega.{arith}
+use Prim.Native.Nat.{_≤_, ℕ}
+use Rattle.words.proofs.Sets.{bytes-turn}
+use Rattle.words.specs.Words.{bytesOf}
 use lib.ListN.{length, length-set}
 use lib.Seq.{sets}
-use Rattle.words.specs.Words.{bytesOf}
-use Rattle.words.proofs.Sets.{bytes-turn}
+use mathlib.Core.Option.{none}
+use mathlib.Core.Path.{_∙_, _≡_, ap}
+use native.Mathlib.Omega.{arith}
+use borrow.Author.Needs.{needs}
 use Rattle.words.proofs.write.Statement.{statement}
 use Rattle.words.proofs.write.Tie as tie
 

@@ -1,7 +1,7 @@
 -- `check_code::table::entries` meets its contract: antt computes the rule at all 256 places and holds the table against it.
 -- Assumes nothing.
-use mathlib.Core.Path.{refl}
 use Rattle.check_code.specs.CheckCode.{shift, shifted8, tableOf}
+use mathlib.Core.Path.{refl}
 use Rattle.check_code.proofs.table.entries.Statement.{statement}
 use Rattle.check_code.proofs.table.entries.Tie as tie
 

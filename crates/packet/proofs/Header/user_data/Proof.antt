@@ -1,11 +1,11 @@
 -- `packet::Header::user_data` meets its contract: the bytes that the header was read from hold its total.
 -- Assumes nothing.
 use Prim.Native.Nat.{_≤_}
-use mathlib.Core.Path.{_≡_, ap, refl}
-use native.Mathlib.Omega.{arith}
-use lib.ListN.{length}
-use Rattle.packet.specs.declared.Header.{Header}
 use Rattle.packet.proofs.Readable.{data-is, packet-is, total-fits}
+use lib.ListN.{length}
+use mathlib.Core.Path.{ap, refl}
+use native.Mathlib.Omega.{arith}
+use Rattle.packet.specs.declared.Header.{Header}
 use Rattle.packet.proofs.Header.user_data.Statement.{statement}
 use Rattle.packet.proofs.Header.user_data.Tie as tie
 

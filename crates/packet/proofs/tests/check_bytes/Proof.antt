@@ -1,17 +1,17 @@
 -- `packet::tests::check_bytes` meets its contract: the total lies within the bytes, so the part before its last two is there.
 -- Assumes nothing.
-use Prim.Native.Nat.{ℕ, _-_, _≤_}
-use mathlib.Core.List.{List}
-use mathlib.Core.Path.{_≡_, sym}
-use native.Mathlib.Omega.{arith}
+use Prim.Native.Nat.{_-_, _≤_, ℕ}
+use Rattle.check_code.specs.CheckCode.{checkCode}
+use Rattle.packet.proofs.Readable.{total-fits}
+use Rattle.packet.specs.Packet.{checkBytes, totalOf}
+use Rattle.words.specs.Words.{number}
 use lib.Dec.{eqb}
 use lib.ListN.{length, take}
 use lib.Seq.{length-take-le}
+use mathlib.Core.List.{List}
+use mathlib.Core.Path.{_≡_, sym}
+use native.Mathlib.Omega.{arith}
 use borrow.Author.Needs.{needs}
-use Rattle.check_code.specs.CheckCode.{checkCode}
-use Rattle.words.specs.Words.{number}
-use Rattle.packet.specs.Packet.{checkBytes, totalOf}
-use Rattle.packet.proofs.Readable.{total-fits}
 use Rattle.packet.proofs.tests.check_bytes.Statement.{statement}
 use Rattle.packet.proofs.tests.check_bytes.Tie as tie
 

@@ -1,12 +1,12 @@
 -- `packet::tests::header_bits` meets its contract.
 -- Assumes nothing.
-use Prim.Native.Nat.{ℕ, _/_}
+use Prim.Native.Nat.{_/_, ℕ}
+use Rattle.packet.proofs.Bits.{bits-are}
+use Rattle.packet.specs.Packet.{headerBits}
+use Rattle.words.specs.Words.{number}
 use lib.Dec.{eqb}
 use mathlib.Core.Path.{_∙_, ap}
 use borrow.Author.Needs.{needs}
-use Rattle.words.specs.Words.{number}
-use Rattle.packet.specs.Packet.{headerBits}
-use Rattle.packet.proofs.Bits.{bits-are}
 use Rattle.packet.proofs.tests.header_bits.Statement.{statement}
 use Rattle.packet.proofs.tests.header_bits.Tie as tie
 

@@ -1,17 +1,16 @@
 -- `packet::tests::total_in_bounds` meets its contract.
 -- Assumes nothing.
-use mathlib.Core.Bool.{_&&_}
-use mathlib.Core.List.{List}
-use mathlib.Core.Path.{_≡_, sym}
-use Prim.Native.Nat.{ℕ, _<_, _≤_}
+use Prim.Native.Nat.{_<_, _≤_, ℕ}
+use Rattle.packet.specs.Packet.{totalInBounds, totalOf}
+use Rattle.rules.proofs.All.{and-true}
+use Rattle.rules.specs.Tests.{allOf}
+use borrow.Author.Tests.{le-leb, lt-leb}
 use lib.Dec.{leb}
 use lib.ListN.{length}
-use Rattle.rules.proofs.All.{and-true}
+use mathlib.Core.List.{List}
+use mathlib.Core.Path.{_≡_, sym}
 use native.Mathlib.Omega.{arith}
 use borrow.Author.Needs.{needs}
-use borrow.Author.Tests.{le-leb, lt-leb}
-use Rattle.rules.specs.Tests.{allOf}
-use Rattle.packet.specs.Packet.{totalInBounds, totalOf}
 use Rattle.packet.proofs.tests.total_in_bounds.Statement.{statement}
 use Rattle.packet.proofs.tests.total_in_bounds.Tie as tie
 

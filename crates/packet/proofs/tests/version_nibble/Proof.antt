@@ -1,8 +1,8 @@
 -- `packet::tests::version_nibble` meets its contract.
 -- Assumes nothing.
+use Rattle.packet.specs.Packet.{versionNibble}
 use mathlib.Core.Path.{refl}
 use borrow.Author.Needs.{needs}
-use Rattle.packet.specs.Packet.{versionNibble}
 use Rattle.packet.proofs.tests.version_nibble.Statement.{statement}
 use Rattle.packet.proofs.tests.version_nibble.Tie as tie
 

@@ -1,11 +1,10 @@
 -- `time::Moment::is_before` meets its contract: the tests on the parts are the test on the whole number.
 -- Assumes nothing.
-use mathlib.Core.Path.{sym}
-use Prim.Native.Nat.{_≤_, _<_}
-use native.Mathlib.Omega.{arith}
-use borrow.Author.Tests.{lt-ltb, le-ltb}
-use Rattle.time.specs.Time.{instantOf}
 use Rattle.time.proofs.Test.{same-test}
+use Rattle.time.specs.Time.{instantOf}
+use borrow.Author.Tests.{le-ltb, lt-ltb}
+use mathlib.Core.Path.{sym}
+use native.Mathlib.Omega.{arith}
 use Rattle.time.proofs.Moment.is_before.Statement.{statement}
 use Rattle.time.proofs.Moment.is_before.Tie as tie
 

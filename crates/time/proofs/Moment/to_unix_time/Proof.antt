@@ -1,10 +1,9 @@
 -- `time::Moment::to_unix_time` meets its contract.
 -- Assumes nothing.
-use Prim.Native.Nat.{_^_, _<_}
+use Rattle.time.proofs.Signed.{back-fits, pos-back}
+use mir.Facts.{toZ-ofZ}
 use native.Mathlib.Omega.{arith}
 use borrow.Author.Needs.{needs}
-use mir.Facts.{toZ-ofZ}
-use Rattle.time.proofs.Signed.{pos-back, back-fits}
 use Rattle.time.proofs.Moment.to_unix_time.Statement.{statement}
 use Rattle.time.proofs.Moment.to_unix_time.Tie as tie
 

@@ -1,9 +1,9 @@
 -- `time::UnixTime::in_range` meets its contract: each signed test says which case of the range holds.
 -- Assumes nothing.
-use borrow.Author.Needs.{needs}
+use Rattle.time.proofs.Signed.{too-high, too-low, within}
 use mir.Syntax.{w64}
 use mir.Val.{SFits}
-use Rattle.time.proofs.Signed.{too-low, too-high, within}
+use borrow.Author.Needs.{needs}
 use Rattle.time.proofs.UnixTime.in_range.Statement.{statement}
 use Rattle.time.proofs.UnixTime.in_range.Tie as tie
 

@@ -1,9 +1,7 @@
 -- `time::UnixTime::to_moment` meets its contract: in range, the sum neither wraps nor is negative.
 -- Assumes nothing.
-use mathlib.Core.Path.{ap}
+use Rattle.time.proofs.Signed.{biased-le, sum-back, sum-fits}
 use native.Mathlib.Omega.{arith}
-use lib.IntN.{natAbs}
-use Rattle.time.proofs.Signed.{sum-fits, sum-back, biased-le}
 use Rattle.time.proofs.UnixTime.to_moment.Statement.{statement}
 use Rattle.time.proofs.UnixTime.to_moment.Tie as tie
 
