@@ -1,0 +1,2 @@
+-- The worked lines marked T.
+pub mod Lines

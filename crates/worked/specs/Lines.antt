@@ -1,0 +1,69 @@
+-- Document 01's worked lines marked T, in its order, as one table, and one statement over it: each comes of the definitions.
+-- To come with their layers: subpool 1, slot 3; address 256; the log of P.
+use Prim.Native.Nat.{ℕ}
+use mathlib.Core.Bool.{Bool, false, true}
+use mathlib.Core.List.{List, [], _∷_}
+use mathlib.Core.Path.{_≡_, refl}
+use lib.IntN.{negsuc, pos}
+use Rattle.check_code.specs.CheckCode.{checkCode, feed, shift}
+use Rattle.rules.specs.Tests.{unless}
+use Rattle.stamp.specs.Stamp.{stampAt, stampOf}
+use Rattle.time.specs.Time.{earliest, inTimeMargin, instant}
+use Rattle.words.specs.Words.{number}
+use Rattle.stamp.specs.declared.Stamp.{Stamp}
+use Rattle.stamp.specs.declared.Stamp.the-variants.{At, Refused}
+use Rattle.time.specs.declared.Margin.{Margin}
+use Rattle.time.specs.declared.UnixTime.{UnixTime}
+
+-- a line: what is given, and what document 01 says comes of it
+pub data Line : Type 0 where
+  -- a stamp's bytes: the time and the stamp's length, or refused
+  stamp : List ℕ → Stamp → Line
+  -- clock, margin and release: whether 13 is given
+  early : UnixTime → Margin → UnixTime → Bool → Line
+  -- clock and margin: the earliest release
+  first : UnixTime → Margin → UnixTime → Line
+  -- bytes, and their check code
+  code : List ℕ → ℕ → Line
+
+abbrev pub Holds : Line → Type 0
+Holds (stamp s r) = stampOf s ≡ r
+Holds (early c m r b) = inTimeMargin c m r ≡ b
+Holds (first c m r) = earliest c m ≡ instant r
+Holds (code s n) = checkCode s ≡ n
+
+abbrev pub Every : List Line → Type 0
+Every [] = Unit {0}
+Every (l ∷ ls) = Holds l × Every ls
+
+-- seconds and nanoseconds; `before n` is -(n + 1) s
+abbrev at : ℕ → ℕ → UnixTime
+at s n = record { secs = pos s; nanos = n }
+
+abbrev before : ℕ → UnixTime
+before n = record { secs = negsuc n; nanos = 0 }
+
+abbrev margin : ℕ → ℕ → Margin
+margin s n = record { secs = s; nanos = n }
+
+abbrev pub lines : List Line
+lines =
+    -- day 4,383, ms 0: 0 s. Day 0: -378,691,200 s. Day 4,383, ms 1,500: 1 s 500,000,000 ns
+    stamp (0x40 ∷ 0x11 ∷ 0x1F ∷ 0 ∷ 0 ∷ 0 ∷ 0 ∷ []) (At (at 0 0) 7) ∷
+    stamp (0x40 ∷ 0 ∷ 0 ∷ 0 ∷ 0 ∷ 0 ∷ 0 ∷ []) (At (before 378691199) 7) ∷
+    stamp (0x40 ∷ 0x11 ∷ 0x1F ∷ 0 ∷ 0 ∷ 0x05 ∷ 0xDC ∷ []) (At (at 1 500000000) 7) ∷
+    -- 24-bit day 16,777,215, ms 0: 1,449,172,684,800 s. ms 86,400,000: refused
+    stamp (0x44 ∷ 0xFF ∷ 0xFF ∷ 0xFF ∷ 0 ∷ 0 ∷ 0 ∷ 0 ∷ []) (At (at 1449172684800 0) 8) ∷
+    stamp (0x40 ∷ 0x11 ∷ 0x1F ∷ 0x05 ∷ 0x26 ∷ 0x5C ∷ 0 ∷ []) Refused ∷
+    -- clock 100 s, margin 5 s: 105 s accepted; 104 s 999,999,999 ns: 13
+    early (at 100 0) (margin 5 0) (at 105 0) false ∷
+    early (at 100 0) (margin 5 0) (at 104 999999999) true ∷
+    -- clock 0 s 600,000,000 ns, margin 0 s 500,000,000 ns: earliest is 1 s 100,000,000 ns
+    first (at 0 600000000) (margin 0 500000000) (at 1 100000000) ∷
+    -- check code of the ASCII digits 1 to 9: 0x29B1
+    code (49 ∷ 50 ∷ 51 ∷ 52 ∷ 53 ∷ 54 ∷ 55 ∷ 56 ∷ 57 ∷ []) 0x29B1 ∷
+    []
+
+pub worked : Every lines
+unfolding checkCode feed number shift stampAt stampOf unless
+worked = (refl, (refl, (refl, (refl, (refl, (refl, (refl, (refl, (refl, tt)))))))))
