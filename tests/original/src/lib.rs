@@ -1,0 +1,11 @@
+//! The original: `pool.rs` and `pus/scheduler.rs` of satrs 0.2.1, read from docs/src as they stand there,
+//! and `run`, which calls them in document 01's words.
+extern crate alloc;
+
+#[rustfmt::skip]
+#[allow(warnings)]
+#[path = "../../../docs/src/src/pool.rs"]
+pub mod pool;
+pub mod lines;
+pub mod pus;
+pub mod run;
