@@ -1,1 +1,9 @@
-//! driver
+//! What the drivers share: a source of random numbers, calls as data, packets, and the two ways of comparing.
+pub mod against;
+pub mod call;
+pub mod domain;
+pub mod exhaustive;
+pub mod packets;
+pub mod prng;
+pub mod side;
+pub mod world;

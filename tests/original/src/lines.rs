@@ -200,6 +200,8 @@ fn call(run: &mut Run, w: &Words) -> String {
             let answer = run.read(w.number(1), &mut buffer);
             return format!("{} {}", answer_line(&answer), hex(&buffer));
         }
+        // without a second word the bytes stay as they are
+        "modify" if w.0.len() < 3 => run.modify(w.number(1), |_, b| b),
         "modify" => {
             let by = w.number(2) as u8;
             run.modify(w.number(1), |i, b| b ^ by.wrapping_add(i as u8))

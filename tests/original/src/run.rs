@@ -175,10 +175,7 @@ pub struct Run {
 /// The original's calls on the scheduler.
 impl Run {
     pub fn new(
-        subpools: &[(u16, usize)],
-        spilling: bool,
-        clock: UnixTime,
-        margin: Duration,
+        subpools: &[(u16, usize)], spilling: bool, clock: UnixTime, margin: Duration,
     ) -> Self {
         let mut config = StaticPoolConfig::new(subpools.to_vec(), spilling);
         config.sanitize();
