@@ -3,7 +3,7 @@
 use crate::call::Call;
 use crate::side::{line, Given, Place, Side, Start};
 use crate::world::World;
-use original::run::Entry;
+use original::answers::Entry;
 use plain::{row_secs, Subject, ANSWER_WORDS, FREE, ROW_WORDS};
 use std::collections::BTreeMap;
 

@@ -5,7 +5,7 @@ use crate::call::{Call, Ends, Instant};
 use crate::packets::{packet, short_stamp, wrap, Fields};
 use crate::prng::Prng;
 use crate::side::{Given, Side, Start, END};
-use original::run::Entry;
+use original::answers::Entry;
 use plain::Subject;
 
 const SIZES: [u64; 16] = [1, 2, 5, 12, 13, 14, 15, 16, 17, 20, 24, 32, 33, 64, 100, 4096];

@@ -2,9 +2,10 @@
 //! the call to the domain of equality.
 use crate::call::{rewritten, Call, Ends, Instant};
 use crate::world::World;
+use original::answers::{Answer, Entry, Handed};
 use original::lines::{answer_line, hex, release_line};
 use original::pus::scheduler::PusSchedulerProvider;
-use original::run::{Answer, Entry, Handed, Mode, Run, Window};
+use original::run::{Mode, Run, Window};
 use plain::decode;
 use spacepackets::time::UnixTime;
 use std::time::Duration;

@@ -25,9 +25,11 @@ pub fn setup_words(subpools: &[(u64, u64)], spilling: u64, entries: u64) -> Vec<
 }
 
 impl World {
-    /// Tables of exactly the setup's size and `more` elements beyond, holding no zeros.
+    /// Tables of exactly the setup's size and `more` elements beyond, holding no zeros; sizes far beyond document
+    /// 01's are cut.
     pub fn of(subpools: &[(u64, u64)], spilling: u64, entries: u64, more: usize) -> World {
-        let bytes: u64 = subpools.iter().map(|&(slots, size)| slots.min(300) * size).sum();
+        let bytes: u64 =
+            subpools.iter().map(|&(slots, size)| slots.min(300) * size.min(5000)).sum();
         let slots: u64 = subpools.iter().map(|&(slots, _)| slots.min(300)).sum();
         let rows = entries.min(5000) as usize * ROW_WORDS + more;
         World {

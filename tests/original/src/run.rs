@@ -1,11 +1,13 @@
-//! The original's calls, with answers in document 01's numbers and values (a signed second as its two's complement).
-use crate::pool::{PoolError, PoolProvider, StaticMemoryPool, StaticPoolConfig, StoreIdError};
-use crate::pus::scheduler::{
-    PusScheduler, PusSchedulerProvider, RequestId, ScheduleError, TcInfo, TimeWindow,
+//! The original's calls on the scheduler, in document 01's words.
+use crate::answers::{
+    answer, entry, inserted, last_refusal, pool_refusal, schedule_refusal, Answer, Entry, Handed,
+    Release,
 };
+use crate::pool::{PoolError, PoolProvider, StaticMemoryPool, StaticPoolConfig};
+use crate::pus::scheduler::{PusScheduler, PusSchedulerProvider, RequestId, TcInfo, TimeWindow};
 use spacepackets::ecss::tc::{GenericPusTcSecondaryHeader, IsPusTelecommand, PusTcReader};
 use spacepackets::time::{CcsdsTimeProvider, UnixTime};
-use spacepackets::{ByteConversionError, CcsdsPacket};
+use spacepackets::CcsdsPacket;
 use std::time::Duration;
 
 /// A request ID by its number: `RequestId` has no public constructor but `from_tc`.
@@ -62,43 +64,6 @@ impl Window {
     }
 }
 
-/// 0 and the values of an answer, or a refusal's number and its values.
-#[derive(Clone, Debug, PartialEq, Eq)]
-pub struct Answer {
-    pub number: u32,
-    pub values: Vec<u64>,
-}
-
-fn answer(number: u32, values: &[u64]) -> Answer {
-    Answer { number, values: values.to_vec() }
-}
-
-/// One entry of the schedule, as the original shows it.
-#[derive(Clone, Debug, PartialEq, Eq)]
-pub struct Entry {
-    pub time: UnixTime,
-    pub id: u64,
-    pub address: u64,
-}
-
-/// What the closure was given.
-#[derive(Clone, Debug, PartialEq, Eq)]
-pub struct Handed {
-    pub enabled: bool,
-    pub id: u64,
-    pub address: u64,
-    pub bytes: Vec<u8>,
-}
-
-/// A release: how many were handed out and how many due entries remain; `stopped` holds the store's refusal.
-#[derive(Clone, Debug, PartialEq, Eq)]
-pub struct Release {
-    pub stopped: Option<Answer>,
-    pub handed: u64,
-    pub left: u64,
-    pub records: Vec<Handed>,
-}
-
 #[derive(Clone, Copy, Debug)]
 pub enum Mode {
     /// The closure answers true.
@@ -111,57 +76,6 @@ pub enum Mode {
     NoDeletion(usize),
     /// No deletion; what the closure sees is cut to the packet's length.
     NoDeletionCut(usize),
-}
-
-pub fn pool_refusal(e: &PoolError) -> Answer {
-    match e {
-        PoolError::DataTooLarge(n) => answer(11, &[*n as u64]),
-        PoolError::StoreFull(k) => answer(12, &[*k as u64]),
-        PoolError::InvalidStoreId(StoreIdError::InvalidSubpool(k), _) => answer(16, &[*k as u64]),
-        PoolError::InvalidStoreId(StoreIdError::InvalidPacketIdx(s), _) => answer(17, &[*s as u64]),
-        PoolError::DataDoesNotExist(a) => answer(18, &[*a]),
-        PoolError::ByteConversionError(ByteConversionError::ToSliceTooSmall {
-            found,
-            expected,
-        }) => answer(19, &[*found as u64, *expected as u64]),
-        e => panic!("the original gave {e:?}"),
-    }
-}
-
-fn schedule_refusal(e: &ScheduleError) -> Answer {
-    match e {
-        ScheduleError::WrongService(n) => answer(5, &[*n as u64]),
-        ScheduleError::WrongSubservice(n) => answer(6, &[*n as u64]),
-        ScheduleError::TcDataEmpty => answer(7, &[]),
-        ScheduleError::TimestampError(_) => answer(8, &[]),
-        ScheduleError::PusError(_) => answer(9, &[]),
-        ScheduleError::NestedScheduledTc => answer(10, &[]),
-        ScheduleError::StoreError(e) => pool_refusal(e),
-        ScheduleError::ReleaseTimeInTimeMargin {
-            current_time: c,
-            time_margin: m,
-            release_time: r,
-        } => {
-            let margin = [m.as_secs(), m.subsec_nanos() as u64];
-            let time = |t: &UnixTime| [t.secs as u64, t.nanos as u64];
-            answer(13, &[time(c), margin, time(r)].concat())
-        }
-        e => panic!("the original gave {e:?}"),
-    }
-}
-
-fn of_pool<T>(result: Result<T, PoolError>, values: impl Fn(T) -> Vec<u64>) -> Answer {
-    match result {
-        Ok(x) => answer(0, &values(x)),
-        Err(e) => pool_refusal(&e),
-    }
-}
-
-fn inserted(result: Result<TcInfo, ScheduleError>) -> Answer {
-    match result {
-        Ok(i) => answer(0, &[i.addr(), i.request_id().as_u64()]),
-        Err(e) => schedule_refusal(&e),
-    }
 }
 
 /// A scheduler and its store.
@@ -344,83 +258,4 @@ impl Run {
         let left = due.map(|b| b.1.len() as u64).sum();
         Release { stopped, handed, left, records }
     }
-}
-
-/// The original's calls on the store, and what it shows of it.
-impl Run {
-    pub fn add(&mut self, data: &[u8]) -> Answer {
-        of_pool(self.pool.add(data), |a| vec![a])
-    }
-
-    pub fn read(&self, address: u64, buffer: &mut [u8]) -> Answer {
-        of_pool(self.pool.read(&address, buffer), |n| vec![n as u64])
-    }
-
-    /// Rewrites the packet's bytes by `byte`, given the place and the old byte.
-    pub fn modify(&mut self, address: u64, byte: impl Fn(usize, u8) -> u8) -> Answer {
-        let mut length = 0;
-        let result = self.pool.modify(&address, |block| {
-            length = block.len() as u64;
-            for (i, b) in block.iter_mut().enumerate() {
-                *b = byte(i, *b);
-            }
-        });
-        of_pool(result, |_| vec![length])
-    }
-
-    pub fn delete(&mut self, address: u64) -> Answer {
-        of_pool(self.pool.delete(address), |_| vec![])
-    }
-
-    pub fn has(&self, address: u64) -> Answer {
-        of_pool(self.pool.has_element_at(&address), |x| vec![x as u64])
-    }
-
-    pub fn len(&self, address: u64) -> Answer {
-        of_pool(self.pool.len_of_data(&address), |n| vec![n as u64])
-    }
-
-    /// Every address of the setup, in order.
-    pub fn addresses(&self) -> impl Iterator<Item = u64> + '_ {
-        let pools = self.subpools.iter().enumerate();
-        pools.flat_map(|(k, &(slots, _))| (0..slots as u64).map(move |s| (k as u64) << 16 | s))
-    }
-
-    pub fn taken(&self) -> impl Iterator<Item = u64> + '_ {
-        self.addresses().filter(|a| self.pool.has_element_at(a).unwrap())
-    }
-
-    pub fn packet(&self, address: u64) -> Vec<u8> {
-        self.pool.read_as_vec(&address).unwrap()
-    }
-
-    /// The bytes of every free slot, seen by reserving them all: the run is spent afterwards.
-    pub fn drain(&mut self) -> Vec<(u64, Vec<u8>)> {
-        let mut out = Vec::new();
-        for k in (0..self.subpools.len()).rev() {
-            let mut seen = Vec::new();
-            let size = self.subpools[k].1;
-            while let Ok(a) = self.pool.free_element(size, |b| seen = b.to_vec()) {
-                out.push((a, seen.clone()));
-            }
-        }
-        out
-    }
-}
-
-fn entry(time: UnixTime, info: &TcInfo) -> Entry {
-    Entry { time, id: info.request_id().as_u64(), address: info.addr() }
-}
-
-fn last_refusal(deleted: u64, missing: u64, last: Option<PoolError>) -> Answer {
-    let mut values = vec![deleted, missing];
-    match last {
-        None => values.push(0),
-        Some(e) => {
-            let refusal = pool_refusal(&e);
-            values.push(refusal.number as u64);
-            values.extend(refusal.values);
-        }
-    }
-    answer(0, &values)
 }

@@ -2,6 +2,7 @@
 //! tables, worked on and put back. Simple before fast. One rule can be broken, to judge what compares with it.
 mod calls;
 mod check_code;
+mod frame;
 mod judge;
 mod log;
 mod packet;

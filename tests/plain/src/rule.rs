@@ -38,7 +38,6 @@ rules! {
     NeverSpills
     AlwaysSpills
     FullNamesFirst
-    DeleteZeroesLengthOnly
     EmptyPacketIsNone
     FreeLengthShown
     SixteenSlotBits
@@ -100,6 +99,7 @@ rules! {
     ;
     BEYOND:
     // tables
+    DeleteZeroesLengthOnly
     AddClearsTail
     VacatedRowKept
     EnabledWordRewritten
