@@ -4,9 +4,9 @@ use crate::call::{rewritten, Call, Ends, Instant};
 use crate::world::World;
 use original::answers::{Answer, Entry, Handed};
 use original::lines::{answer_line, hex, release_line};
-use original::pus::scheduler::PusSchedulerProvider;
 use original::run::{Mode, Run, Window};
 use plain::decode;
+use satrs::pus::scheduler::PusSchedulerProvider;
 use spacepackets::time::UnixTime;
 use std::time::Duration;
 

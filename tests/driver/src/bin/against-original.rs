@@ -4,7 +4,7 @@ use driver::against::Counts;
 use driver::domain::random_sequence;
 use driver::exhaustive;
 use driver::prng::Prng;
-use plain::Plain;
+use driver::Compared;
 use std::process::ExitCode;
 
 fn main() -> ExitCode {
@@ -13,7 +13,7 @@ fn main() -> ExitCode {
         eprintln!("usage: against-original N SEED");
         return ExitCode::FAILURE;
     };
-    let subject = Plain::default();
+    let subject = Compared::default();
     let mut counts = Counts::default();
     let depth = if n >= 100_000 { 4 } else { 3 };
     let mut result = exhaustive::all(&subject, depth, &mut counts);

@@ -4,7 +4,7 @@ use driver::against::Counts;
 use driver::domain::random_sequence;
 use driver::prng::Prng;
 use driver::side::line;
-use plain::Plain;
+use driver::Compared;
 use std::process::ExitCode;
 
 fn main() -> ExitCode {
@@ -17,7 +17,7 @@ fn main() -> ExitCode {
     for _ in 0..n {
         let mut first = true;
         let result = random_sequence(
-            &Plain::default(),
+            &Compared::default(),
             &mut seeds.part(),
             &mut Counts::default(),
             |start, call, given| {

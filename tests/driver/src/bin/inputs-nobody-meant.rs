@@ -1,6 +1,7 @@
 //! `inputs-nobody-meant N SEED`: N random worlds, in any state, with calls that nobody meant, to two subjects.
 use driver::prng::Prng;
 use driver::two::{random_world, Counts};
+use driver::Compared;
 use plain::Plain;
 use std::process::ExitCode;
 
@@ -10,7 +11,7 @@ fn main() -> ExitCode {
         eprintln!("usage: inputs-nobody-meant N SEED");
         return ExitCode::FAILURE;
     };
-    let (first, second) = (Plain::default(), Plain::default());
+    let (first, second) = (Plain::default(), Compared::default());
     let mut counts = Counts::default();
     let mut seeds = Prng::new(seed);
     let mut result = Ok(());

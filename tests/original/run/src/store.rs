@@ -1,7 +1,7 @@
 //! The original's calls on the store, and what it shows of it.
 use crate::answers::{of_pool, Answer};
-use crate::pool::PoolProvider;
 use crate::run::Run;
+use satrs::pool::PoolProvider;
 
 impl Run {
     pub fn add(&mut self, data: &[u8]) -> Answer {

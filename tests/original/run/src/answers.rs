@@ -1,6 +1,6 @@
 //! The original's answers and refusals in document 01's numbers and values (a signed second as its two's complement).
-use crate::pool::{PoolError, StoreIdError};
-use crate::pus::scheduler::{ScheduleError, TcInfo};
+use satrs::pool::{PoolError, StoreIdError};
+use satrs::pus::scheduler::{ScheduleError, TcInfo};
 use spacepackets::time::UnixTime;
 use spacepackets::ByteConversionError;
 

@@ -1,7 +1,7 @@
 //! The line protocol: a request's words to a call of `Run`, and its answer to a line. `main.rs` says how lines read.
 use crate::answers::{Answer, Entry, Release};
-use crate::pus::scheduler::{generate_insert_telecommand_app_data_as_vec, PusSchedulerProvider};
 use crate::run::{Mode, Run, Window};
+use satrs::pus::scheduler::{generate_insert_telecommand_app_data_as_vec, PusSchedulerProvider};
 use spacepackets::ecss::{PusError, WritablePusPacket};
 use spacepackets::time::{TimeWriter, TimestampError, UnixTime};
 use std::fmt::Write;

@@ -3,8 +3,8 @@ use crate::answers::{
     answer, entry, inserted, last_refusal, pool_refusal, schedule_refusal, Answer, Entry, Handed,
     Release,
 };
-use crate::pool::{PoolError, PoolProvider, StaticMemoryPool, StaticPoolConfig};
-use crate::pus::scheduler::{PusScheduler, PusSchedulerProvider, RequestId, TcInfo, TimeWindow};
+use satrs::pool::{PoolError, PoolProvider, StaticMemoryPool, StaticPoolConfig};
+use satrs::pus::scheduler::{PusScheduler, PusSchedulerProvider, RequestId, TcInfo, TimeWindow};
 use spacepackets::ecss::tc::{GenericPusTcSecondaryHeader, IsPusTelecommand, PusTcReader};
 use spacepackets::time::{CcsdsTimeProvider, UnixTime};
 use spacepackets::CcsdsPacket;
