@@ -1,6 +1,7 @@
 //! A subject against the original: the same calls to both, compared in every answer, every handed-out byte and the
 //! whole state, as far as the original shows it.
 use crate::call::Call;
+use crate::events;
 use crate::side::{line, Given, Place, Side, Start};
 use crate::world::World;
 use original::answers::Entry;
@@ -16,6 +17,8 @@ pub struct Counts {
     pub sequences: u64,
     pub calls: u64,
     pub answers: BTreeMap<(&'static str, u32), u64>,
+    /// How often each boundary was met.
+    pub met: BTreeMap<&'static str, u64>,
 }
 
 /// A subject and the original, at the same place of one sequence.
@@ -159,7 +162,10 @@ pub fn sequence(
             continue;
         }
         calls.push(call.clone());
+        let mut met = events::before(&call, &mut pair.side);
         let given = pair.step(&call).map_err(|e| (calls.clone(), e))?;
+        met.extend(events::after(&call, &pair.side, &given));
+        met.iter().for_each(|&event| *counts.met.entry(event).or_default() += 1);
         seen(&call, &given);
         counts.calls += 1;
         *counts.answers.entry((call.name(), given.answer.number)).or_default() += 1;

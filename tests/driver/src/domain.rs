@@ -259,6 +259,17 @@ fn before((secs, nanos): Instant) -> Instant {
     }
 }
 
+/// Calls that take nearly all slots of a subpool with very many.
+fn almost_full(start: &Start, r: &mut Prng) -> Vec<Call> {
+    match start.subpools.iter().find(|&&(slots, _)| slots > 200) {
+        None => vec![],
+        Some(&(slots, size)) => {
+            let taken = slots as usize - r.below(4);
+            vec![Call::Add(r.bytes(size as usize)); taken]
+        }
+    }
+}
+
 /// One random sequence against the original; an error is a report.
 pub fn random_sequence(
     subject: &dyn Subject, r: &mut Prng, counts: &mut Counts,
@@ -266,10 +277,11 @@ pub fn random_sequence(
 ) -> Result<(), String> {
     let start = random_start(r);
     let mut left = r.pick(&[8, 20, 60]);
-    if start.subpools.iter().any(|&(slots, _)| slots > 200) && r.one_in(2) {
-        left = 400;
-    }
+    let mut filling = almost_full(&start, r);
     let next = |side: &mut Side| {
+        if let Some(call) = filling.pop() {
+            return Some(call);
+        }
         left -= 1;
         (left >= 0).then(|| Draw { r, side }.call())
     };

@@ -2,6 +2,7 @@
 use crate::call::{Call, Instant};
 use crate::crafted;
 use crate::faults::damage;
+use crate::granted::granted;
 use crate::prng::Prng;
 use crate::random_calls::Draw;
 use crate::world::World;
@@ -22,7 +23,7 @@ fn both(
     let (mut a, mut b) = (world.clone(), world.clone());
     let (number, other) = (call.on(first, &mut a), call.on(second, &mut b));
     let parts = [
-        ("numbers", number == other),
+        ("numbers", number == other && granted(call.name()).contains(&number)),
         ("answers", a.answer == b.answer),
         ("records", a.record == b.record),
         ("stores", a.store == b.store),

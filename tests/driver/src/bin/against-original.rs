@@ -2,10 +2,13 @@
 //! to the original; the first difference ends it with its shortened sequence.
 use driver::against::Counts;
 use driver::domain::random_sequence;
-use driver::exhaustive;
 use driver::prng::Prng;
 use driver::Compared;
+use driver::{events, exhaustive};
 use std::process::ExitCode;
+
+/// So many sequences meet every boundary.
+const ENOUGH: u64 = 5_000;
 
 fn main() -> ExitCode {
     let args: Vec<u64> = std::env::args().skip(1).map(|a| a.parse().expect("a number")).collect();
@@ -29,9 +32,18 @@ fn main() -> ExitCode {
     for ((name, number), times) in &counts.answers {
         println!("  {name} {number}: {times}");
     }
-    match result {
-        Ok(()) => ExitCode::SUCCESS,
-        Err(report) => {
+    println!("boundaries met:");
+    for (event, times) in &counts.met {
+        println!("  {event}: {times}");
+    }
+    let mut not_met = events::ALL.iter().filter(|event| !counts.met.contains_key(*event));
+    match (result, not_met.next()) {
+        (Ok(()), Some(event)) if n >= ENOUGH => {
+            println!("NOT MET: {event}");
+            ExitCode::FAILURE
+        }
+        (Ok(()), _) => ExitCode::SUCCESS,
+        (Err(report), _) => {
             println!("DIFFERENCE\n{report}");
             ExitCode::FAILURE
         }
