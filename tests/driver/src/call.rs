@@ -89,7 +89,9 @@ impl Call {
                 let number = s.silotwist_store_part(setup, store, lens, a, answer);
                 if number == 0 {
                     let (at, n) = (answer[0] as usize, answer[1] as usize);
-                    rewrite(&mut store[at..at + n], by);
+                    if let Some(part) = store.get_mut(at..at.saturating_add(n)) {
+                        rewrite(part, by);
+                    }
                 }
                 number
             }

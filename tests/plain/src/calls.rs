@@ -232,6 +232,9 @@ impl Subject for Plain {
             self.step((setup, record, store, lens, rows), None, |s| {
                 let ticked = s.tick(log.len(), limit, delete_packets)?;
                 log[..ticked.log.len()].copy_from_slice(&ticked.log);
+                if self.reading.breaks(Rule::LogTailCleared) {
+                    log[ticked.log.len()..].fill(0);
+                }
                 Ok(vec![ticked.handed, ticked.remaining])
             })
         })

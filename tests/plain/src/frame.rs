@@ -78,7 +78,7 @@ impl Plain {
         let reading = self.reading;
         judge::record_room(record)?;
         if !(reading.breaks(Rule::ClockMendsDamage) && argument.is_some()) {
-            judge::record_times(&Record::read(record), reading)?;
+            judge::record_times(&Record::read(record, reading), reading)?;
         }
         argument.map_or(Ok(()), |t| judge::time_argument(t, reading))?;
         change(record);
@@ -117,13 +117,30 @@ impl Plain {
         }
         let mut state = State::judged(setup, record, store, lens, rows, self.reading)?;
         judge_argument()?;
-        let values = call(&mut state)?;
+        let answer = call(&mut state);
+        if self.keeps_slot(&answer) {
+            state.store.put_back(store, lens);
+        }
+        let values = answer?;
         state.put_back(record, store, lens, rows);
         Ok(values)
     }
 }
 
 pub type Tables<'a> = (&'a [u64], &'a mut [u64], &'a mut [u8], &'a mut [u16], &'a mut [u64]);
+
+/// "Late insertion: the Rust stores first and loses the slot at refusal 13." Here only where that rule is broken.
+impl Plain {
+    fn keeps_slot(&self, answer: &Answer) -> bool {
+        match answer {
+            Err(Refusal::ReleaseTimeInTimeMargin { .. }) => {
+                self.reading.breaks(Rule::LateInsertionKeepsItsSlot)
+            }
+            Err(Refusal::ScheduleFull) => self.reading.breaks(Rule::FullScheduleKeepsTheSlot),
+            _ => false,
+        }
+    }
+}
 
 /// "A fresh start knows 1, 2 and 4 only".
 impl Plain {

@@ -64,6 +64,9 @@ rules! {
     MarginBeforeStore
     CarryLost
     NanosFirst
+    NanosIgnored
+    SecondsUnsigned
+    MarginNanosIgnored
     EqualTimesInFront
     LastRowNeverUsed
     // windows and deletions
@@ -87,6 +90,7 @@ rules! {
     DeleteModeKeeps
     KeepModeDeletes
     LogAddressDecoded
+    LogTailCleared
     // the record and the answer
     ClockKeepsItsNanos
     EnableDoesNothing
@@ -103,6 +107,8 @@ rules! {
     AddClearsTail
     VacatedRowKept
     EnabledWordRewritten
+    EnabledOnlyByOne
+    SpillingOnlyByOne
     AnswerWordsLeft
     FreshKeepsRows
     FreshStartsDisabled
@@ -136,6 +142,10 @@ rules! {
     NextDaysMillisecond
     // insertion and the tick
     FullBeforeMargin
+    LateInsertionKeepsItsSlot
+    FullScheduleKeepsTheSlot
+    IdOfFortyEightBits
+    MissingStopsTheTick
     LimitIgnored
     LimitCutToByte
     MissingFlaggedDisabled

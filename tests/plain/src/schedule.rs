@@ -200,11 +200,13 @@ impl State {
 
     /// "in the earliest release time that has a match, the last match goes"
     fn take_match(&mut self, id: u64) -> Option<Entry> {
+        let bits = if self.breaks(Rule::IdOfFortyEightBits) { (1 << 48) - 1 } else { u64::MAX };
+        let has_id = |e: &&Entry| e.id & bits == id & bits;
         let time = match self.breaks(Rule::LatestTimeFirst) {
-            true => self.entries.iter().rev().find(|e| e.id == id)?.time,
-            false => self.entries.iter().find(|e| e.id == id)?.time,
+            true => self.entries.iter().rev().find(has_id)?.time,
+            false => self.entries.iter().find(has_id)?.time,
         };
-        let matches = |e: &Entry| e.id == id && e.time == time;
+        let matches = |e: &Entry| has_id(&e) && e.time == time;
         let at = match self.breaks(Rule::FirstMatchRemoved) {
             true => self.entries.iter().position(matches)?,
             false => self.entries.iter().rposition(matches)?,

@@ -82,7 +82,8 @@ impl Setup {
         if !bytes_in_range(&subpools, reading) || !entries_fine {
             return Err(Refusal::BadSetup);
         }
-        Ok(Setup { spilling: words[1] != 0, entries: words[2], subpools })
+        let spilling = words[1] == 1 || words[1] != 0 && !reading.breaks(Rule::SpillingOnlyByOne);
+        Ok(Setup { spilling, entries: words[2], subpools })
     }
 
     pub fn bytes(&self) -> usize {

@@ -16,12 +16,13 @@ pub struct Record {
 }
 
 impl Record {
-    pub fn read(words: &[u64]) -> Record {
+    pub fn read(words: &[u64], reading: Reading) -> Record {
+        let only_one = reading.breaks(Rule::EnabledOnlyByOne);
         Record {
             count: words[0],
             clock: Time { secs: words[1] as i64, nanos: words[2] },
             margin: Margin { secs: words[3], nanos: words[4] },
-            enabled: words[5] != 0,
+            enabled: words[5] == 1 || words[5] != 0 && !only_one,
         }
     }
 }
@@ -56,7 +57,7 @@ impl State {
         setup: &[u64], record: &[u64], store: &[u8], lens: &[u16], rows: &[u64], reading: Reading,
     ) -> Result<State, Refusal> {
         let setup: Setup = judge::room(setup, record, store, lens, rows, reading)?;
-        let record = Record::read(record);
+        let record = Record::read(record, reading);
         judge::damage(&setup, &record, lens, rows, reading)?;
         Ok(State {
             reading,

@@ -76,7 +76,8 @@ impl State {
                 if self.breaks(Rule::DeletedAfterAllTurns) { &self.store } else { &store };
             let record = self.turn(looked_up, entry);
             total += 4 + record.size();
-            if total > room {
+            let stops = record.flag == MISSING && self.breaks(Rule::MissingStopsTheTick);
+            if total > room || stops {
                 break;
             }
             self.after_turn(&mut store, entry, record.flag, delete);

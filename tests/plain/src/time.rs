@@ -32,15 +32,20 @@ impl Time {
 
     /// Seconds decide, then nanoseconds.
     pub fn before(self, other: Time, reading: Reading) -> bool {
-        if reading.breaks(Rule::NanosFirst) {
-            return (self.nanos, self.secs) < (other.nanos, other.secs);
+        match reading.broken {
+            Some(Rule::NanosFirst) => (self.nanos, self.secs) < (other.nanos, other.secs),
+            Some(Rule::NanosIgnored) => self.secs < other.secs,
+            Some(Rule::SecondsUnsigned) => {
+                (self.secs as u64, self.nanos) < (other.secs as u64, other.nanos)
+            }
+            _ => (self.secs, self.nanos) < (other.secs, other.nanos),
         }
-        (self.secs, self.nanos) < (other.secs, other.nanos)
     }
 
     /// "clock + margin", of a clock and a margin in range.
     pub fn plus(self, margin: Margin, reading: Reading) -> Time {
-        let nanos = self.nanos + margin.nanos;
+        let ignored = reading.breaks(Rule::MarginNanosIgnored);
+        let nanos = self.nanos + if ignored { 0 } else { margin.nanos };
         let carry = if reading.breaks(Rule::CarryLost) { 0 } else { nanos / NANOS };
         Time { secs: self.secs + margin.secs as i64 + carry as i64, nanos: nanos % NANOS }
     }
