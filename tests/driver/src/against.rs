@@ -5,6 +5,7 @@ use crate::events;
 use crate::side::{line, Given, Place, Side, Start};
 use crate::world::World;
 use original::answers::Entry;
+use original::lines::hex;
 use plain::{row_secs, Subject, ANSWER_WORDS, FREE, ROW_WORDS};
 use std::collections::BTreeMap;
 
@@ -59,7 +60,8 @@ impl<'a> Pair<'a> {
         }
         let buffer = &self.world.buffer;
         if buffer.len() < given.bytes.len() || buffer[..given.bytes.len()] != given.bytes[..] {
-            return Err(format!("handed out {buffer:?}, the original gives {}", given.line));
+            let out = hex(&buffer[..buffer.len().min(given.bytes.len())]);
+            return Err(format!("handed out {out}, the original gives {}", given.line));
         }
         if !World::untouched(buffer, given.bytes.len()) {
             return Err("wrote behind what it handed out".into());
@@ -185,17 +187,21 @@ pub fn replay(subject: &dyn Subject, start: &Start, calls: &[Call]) -> Result<()
     sequence(subject, start, &mut counts, next, |_, _| ()).map_err(|(_, e)| e)
 }
 
-/// The calls that are left when every call without which the sides still differ is taken out.
+/// The calls that are left when runs of calls, long ones first, without which the sides still differ are taken out.
 pub fn shorten(subject: &dyn Subject, start: &Start, calls: &[Call]) -> Vec<Call> {
     let mut calls = calls.to_vec();
-    let mut i = 0;
-    while i < calls.len() {
-        let mut fewer = calls.clone();
-        fewer.remove(i);
-        match replay(subject, start, &fewer) {
-            Err(_) => calls = fewer,
-            Ok(()) => i += 1,
+    let mut size = calls.len();
+    while size > 0 {
+        let mut i = 0;
+        while i < calls.len() {
+            let end = calls.len().min(i + size);
+            let fewer = [&calls[..i], &calls[end..]].concat();
+            match replay(subject, start, &fewer) {
+                Err(_) => calls = fewer,
+                Ok(()) => i += size,
+            }
         }
+        size /= 2;
     }
     calls
 }
