@@ -93,7 +93,7 @@ pub fn spoil(r: &mut Prng, p: &mut Vec<u8>) {
         1 => p[0] ^= 1 << 4,
         2 => p[0] ^= 1 << 3,
         3 => p[6] ^= 1 << r.pick(&[4, 5, 6, 7]),
-        4 => p[4..6].copy_from_slice(&(field + 1).to_be_bytes()),
+        4 => p[4..6].copy_from_slice(&field.saturating_add(1).to_be_bytes()),
         5 => p[4..6].copy_from_slice(&5u16.to_be_bytes()),
         6 => p[4..6].copy_from_slice(&r.pick(&[0u16, 4, 0xFFFF]).to_be_bytes()),
         7 => {

@@ -27,7 +27,7 @@ pub fn packet(f: &Fields) -> Vec<u8> {
     let mut p = Vec::new();
     p.extend((0x1800 | f.apid & 0x7FF).to_be_bytes());
     p.extend(((f.flags as u16 & 3) << 14 | f.sequence & 0x3FFF).to_be_bytes());
-    p.extend((13 + f.data.len() as u16 - 7).to_be_bytes());
+    p.extend(((13 + f.data.len() - 7) as u16).to_be_bytes());
     p.extend([0x20 | f.acks & 0xF, f.service, f.subservice]);
     p.extend(f.source.to_be_bytes());
     p.extend(&f.data);

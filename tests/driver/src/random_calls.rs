@@ -7,6 +7,9 @@ use crate::prng::Prng;
 use crate::world::World;
 use plain::ROW_WORDS;
 
+/// The longest packet that a length field can name.
+const LONGEST: usize = 65_535 + 7;
+
 pub struct Draw<'a> {
     pub r: &'a mut Prng,
     pub world: &'a World,
@@ -74,6 +77,7 @@ impl Draw<'_> {
             return self.r.bytes(n);
         }
         let trailing = if self.r.one_in(6) { 1 + self.r.below(3) } else { 0 };
+        let n = if self.r.one_in(400) { LONGEST - self.r.below(2) } else { n };
         let data = self.r.bytes(n.saturating_sub(13 + trailing));
         self.sealed(data, trailing)
     }
@@ -126,6 +130,7 @@ impl Draw<'_> {
             let n = self.r.below(9).min(data.len());
             data.truncate(n);
         }
+        data.truncate(LONGEST - 13);
         let r = &mut *self.r;
         let (service, subservice) = match r.below(10) {
             0 => (12, 5),

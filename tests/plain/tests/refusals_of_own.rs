@@ -72,6 +72,12 @@ fn room_for_the_packet() {
     refuses(&mut w, insert(&long), 11, &[21]);
     let padded = [ping(1, 1), vec![7; 8]].concat();
     refuses(&mut w, insert(&padded), 11, &[21]);
+    let longest = request(17, 1, vec![0; 65_529]);
+    refuses(&mut w, Call::Unwrapped((5, 0), longest), 11, &[65_542]);
+    let inner = request(17, 1, vec![0; 65_509]);
+    let Call::Wrapped(outer) = insert(&inner) else { unreachable!() };
+    assert_eq!(outer.len(), 65_542);
+    refuses(&mut w, Call::Wrapped(outer), 11, &[65_522]);
     gives(&mut w, Call::Unwrapped((5, 0), ping(1, 1)), &[0, 1 << 16 | 1]);
     refuses(&mut w, Call::Add(vec![1; 13]), 12, &[0]);
     refuses(&mut w, Call::Unwrapped((5, 0), ping(1, 1)), 12, &[0]);

@@ -230,6 +230,17 @@ fn difference_13_shapes() {
     b.plain(Call::DeleteByIdKeep(7), 0, &[1, 11]);
 }
 
+/// The closure decides packet by packet; document 01's caller says keep or delete once.
+#[test]
+fn difference_13_a_closure_that_answers_false() {
+    let mut b = Both::new(&[(2, 16)], (0, 0), (0, 0));
+    b.unwrapped(0, &p());
+    let release = b.original.release(Mode::ClosureFalse);
+    assert_eq!((release.handed, release.left, b.original.has(0).values), (1, 0, vec![1]));
+    b.tick(false, &[1, 0]);
+    b.plain(Call::Has(0), 0, &[1]);
+}
+
 #[test]
 fn difference_14_the_count_in_front() {
     let mut b = Both::new(&[(1, 16)], (0, 0), (0, 0));
