@@ -137,6 +137,10 @@ fn difference_7_a_reversed_window() {
     assert!(panics(&mut b), "emptied by a deletion");
     b.original.reset();
     assert!(!panics(&mut b), "emptied by reset");
+    b.original.add(&p());
+    b.original.stored(at(0, 0), 7, 0);
+    assert_eq!(b.original.release(Mode::Delete).handed, 1);
+    assert!(panics(&mut b), "emptied by a release");
     b.plain(Call::Reset, 0, &[0, 1, 18, 0]);
     b.plain(Call::Window(ends), 15, &[]);
 }
