@@ -5,43 +5,11 @@ use crate::call::{Call, Ends, Instant};
 use crate::packets::{packet, short_stamp, wrap, Fields};
 use crate::prng::Prng;
 use crate::side::{Given, Side, Start, END};
+use crate::starts::{first_calls, random_start};
 use original::answers::Entry;
 use plain::Subject;
 
-const SIZES: [u64; 16] = [1, 2, 5, 12, 13, 14, 15, 16, 17, 20, 24, 32, 33, 64, 100, 4096];
-const NANOS: [u32; 6] = [0, 1, 500_000_000, 600_000_000, 999_999_998, 999_999_999];
-
-pub fn random_start(r: &mut Prng) -> Start {
-    let number = r.pick(&[1, 1, 2, 2, 3, 4, 8]);
-    let mut sizes: Vec<u64> = Vec::new();
-    while sizes.len() < number {
-        let size = r.pick(&SIZES);
-        if !sizes.contains(&size) {
-            sizes.push(size);
-        }
-    }
-    sizes.sort();
-    let many = if r.one_in(40) { r.below(number) } else { number };
-    let slots = |k: usize, r: &mut Prng| if k == many { 256 } else { r.pick(&[1, 1, 2, 3]) };
-    let mut subpools: Vec<(u64, u64)> =
-        sizes.iter().enumerate().map(|(k, &size)| (slots(k, r), size)).collect();
-    let bytes = |pools: &[(u64, u64)]| pools.iter().map(|&(slots, size)| slots * size).sum::<u64>();
-    while bytes(&subpools) > 1_048_576 {
-        subpools[many].0 -= 1;
-    }
-    let far = [0, 100, -1, 86_399, 4_000_000_000, -378_691_200, -END, END - 8];
-    let margins = [(0, 0), (0, 0), (5, 0), (0, 500_000_000), (2, 999_999_999), (1 << 31, 7)];
-    let margin = r.pick(&margins);
-    let secs = r.pick(&far);
-    let secs = if secs == END - 8 { secs - margin.0 as i64 } else { secs };
-    Start {
-        subpools,
-        spilling: r.one_in(2),
-        entries: r.pick(&[1, 2, 3, 6, 12, 40, 4096]),
-        clock: (secs, r.pick(&NANOS)),
-        margin,
-    }
-}
+pub const NANOS: [u32; 6] = [0, 1, 500_000_000, 600_000_000, 999_999_998, 999_999_999];
 
 /// What a random call is drawn from: the sequence's own setup and the original as it stands.
 pub struct Draw<'a> {
@@ -75,6 +43,21 @@ impl Draw<'_> {
             _ => at,
         };
         (near.0.clamp(-END, END), near.1)
+    }
+
+    /// A clock: mostly at or just after an entry, so that something is due.
+    fn next_clock(&mut self) -> Instant {
+        match self.entry() {
+            Some(e) if !self.r.one_in(3) => {
+                let at = (e.time.secs, e.time.nanos);
+                if self.r.one_in(4) && at.0 < END {
+                    after(at)
+                } else {
+                    at
+                }
+            }
+            _ => self.time(),
+        }
     }
 
     /// A release time, seldom inside the margin.
@@ -222,7 +205,7 @@ impl Draw<'_> {
             14 => Call::Has(self.address()),
             15 => Call::Len(self.address()),
             16 => Call::Fresh(self.side.start.clock, self.side.start.margin),
-            17..=24 => Call::SetClock(self.time()),
+            17..=24 => Call::SetClock(self.next_clock()),
             25 | 26 => Call::Enable,
             27 => Call::Disable,
             28 => Call::Count,
@@ -259,27 +242,16 @@ fn before((secs, nanos): Instant) -> Instant {
     }
 }
 
-/// Calls that take nearly all slots of a subpool with very many.
-fn almost_full(start: &Start, r: &mut Prng) -> Vec<Call> {
-    match start.subpools.iter().find(|&&(slots, _)| slots > 200) {
-        None => vec![],
-        Some(&(slots, size)) => {
-            let taken = slots as usize - r.below(4);
-            vec![Call::Add(r.bytes(size as usize)); taken]
-        }
-    }
-}
-
 /// One random sequence against the original; an error is a report.
 pub fn random_sequence(
     subject: &dyn Subject, r: &mut Prng, counts: &mut Counts,
     seen: impl FnMut(&Start, &Call, &Given),
 ) -> Result<(), String> {
     let start = random_start(r);
-    let mut left = r.pick(&[8, 20, 60]);
-    let mut filling = almost_full(&start, r);
+    let mut left = r.pick(&[8, 20, 60, 60]);
+    let mut first = first_calls(&start, r);
     let next = |side: &mut Side| {
-        if let Some(call) = filling.pop() {
+        if let Some(call) = first.pop() {
             return Some(call);
         }
         left -= 1;

@@ -3,7 +3,7 @@ use crate::call::{Call, Ends, Instant};
 use crate::side::{Given, Side};
 
 /// All that can be met.
-pub const ALL: [&str; 21] = [
+pub const ALL: [&str; 22] = [
     "a clock set back",
     "a full store with spilling",
     "a full store without spilling",
@@ -12,6 +12,7 @@ pub const ALL: [&str; 21] = [
     "a release at an entry's time",
     "a release at clock + margin",
     "a slot exactly met",
+    "a tick of more than five records",
     "a tick of one record",
     "a tick of several records",
     "a tick that deletes",
@@ -111,7 +112,11 @@ pub fn after(call: &Call, side: &Side, given: &Given) -> Vec<&'static str> {
         Call::Tick { delete, .. } if values[0] > 0 => vec![
             if *delete { "a tick that deletes" } else { "a tick that keeps" },
             if side.enabled() { "records released" } else { "records due while disabled" },
-            if values[0] > 1 { "a tick of several records" } else { "a tick of one record" },
+            match values[0] {
+                1 => "a tick of one record",
+                2..=5 => "a tick of several records",
+                _ => "a tick of more than five records",
+            },
         ],
         Call::DeleteWindow(_) | Call::Reset if values[1] > 0 => vec!["a missing packet deleted"],
         Call::DeleteById(_) if values.len() > 2 => vec!["a missing packet deleted by ID"],

@@ -13,6 +13,7 @@ pub mod packets;
 pub mod prng;
 pub mod random_calls;
 pub mod side;
+mod starts;
 pub mod two;
 pub mod world;
 
