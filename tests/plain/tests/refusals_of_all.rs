@@ -4,7 +4,8 @@ use common::{fresh, gives, refuses};
 use driver::call::{Call, Ends};
 use driver::packets::{ping, short_stamp, wrap};
 use driver::world::World;
-use plain::{row_secs, Plain, NAMES};
+use driver::Compared;
+use plain::{row_secs, NAMES};
 
 const ENDS: Ends = Ends { has_from: true, from: (1, 0), has_to: true, to: (2, 0) };
 const LATE: (i64, u32) = ((1 << 42) + 1, 0);
@@ -70,7 +71,7 @@ fn all_pass(calls: Vec<Call>, spoil: impl Fn(&mut World)) {
     for call in calls {
         let mut w = world();
         spoil(&mut w);
-        assert_eq!(call.on(&Plain::default(), &mut w), 0, "{call:?}");
+        assert_eq!(call.on(&Compared::default(), &mut w), 0, "{call:?}");
     }
 }
 
@@ -92,7 +93,7 @@ fn a_short_answer_before_anything_else() {
             w.setup.clear();
             w.answer = vec![0xA5A5; words];
             let before = w.clone();
-            assert_eq!(call.on(&Plain::default(), &mut w), 2);
+            assert_eq!(call.on(&Compared::default(), &mut w), 2);
             assert_eq!(World { buffer: vec![], ..w }, before);
         }
     }

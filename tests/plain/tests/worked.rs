@@ -105,12 +105,12 @@ fn spilling() {
     let run = |slots: u64| {
         let mut w = fresh(&[(slots, 16), (1, 32), (1, 64)], true, 1, (0, 0), (0, 0));
         let mut add = |n: usize| {
-            assert_eq!(Call::Add(vec![1; n]).on(&plain::Plain::default(), &mut w), 0);
+            assert_eq!(Call::Add(vec![1; n]).on(&driver::Compared::default(), &mut w), 0);
             w.answer[0]
         };
         let (_a, r, q) = (add(16), add(16), add(32));
         gives(&mut w, Call::Delete(r), &[]);
-        assert_eq!(Call::Add(vec![2; 32]).on(&plain::Plain::default(), &mut w), 0);
+        assert_eq!(Call::Add(vec![2; 32]).on(&driver::Compared::default(), &mut w), 0);
         gives(&mut w, Call::Delete(q), &[]);
         w
     };

@@ -2,7 +2,7 @@
 #![allow(dead_code)]
 use driver::call::{Call, Instant};
 use driver::world::World;
-use plain::Plain;
+use driver::Compared;
 
 /// A fresh scheduler with a clock and a margin; tables reach beyond the setup.
 pub fn fresh(
@@ -20,7 +20,7 @@ pub fn plain_world(slots: u64) -> World {
 
 fn answers(w: &mut World, call: &Call, number: u32, values: &[u64]) {
     w.answer.fill(0xA5A5);
-    assert_eq!(call.on(&Plain::default(), w), number, "{call:?}");
+    assert_eq!(call.on(&Compared::default(), w), number, "{call:?}");
     let mut words = values.to_vec();
     words.resize(8, 0);
     words.resize(w.answer.len(), 0xA5A5);
