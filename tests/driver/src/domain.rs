@@ -142,8 +142,8 @@ impl Draw<'_> {
         let pools = self.side.start.subpools.len() as u64;
         let known = match self.r.below(4) {
             0 if !taken.is_empty() => self.r.pick(&taken),
-            1 => self.r.word() % (pools + 1) << 16 | self.r.word() % 4,
-            2 => self.r.word() % pools << 16 | self.r.pick(&[0, 1, 255]),
+            1 => ((self.r.word() % (pools + 1)) << 16) | (self.r.word() % 4),
+            2 => (self.r.word() % pools) << 16 | self.r.pick(&[0, 1, 255]),
             _ => self.entry().map_or(0, |e| e.address),
         };
         match self.r.below(10) {

@@ -24,7 +24,7 @@ impl Window {
             true => time.before(b, reading),
             false => !b.before(time, reading),
         };
-        self.from.map_or(true, after) && self.to.map_or(true, until)
+        self.from.is_none_or(after) && self.to.is_none_or(until)
     }
 
     /// 15: "start after end"
