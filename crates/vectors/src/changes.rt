@@ -1,7 +1,7 @@
 // P of document 01's worked line with one byte changed, the check code left as it was or put right again (module 2).
 use crate::packets;
 use crate::print;
-ghost use Prim.Native.Nat.{_<_, _≤_};
+ghost use Prim.Native.Nat.{_+_, _<_, _≤_};
 ghost use lib.ListN.{length};
 
 const P: [u8; 13] = [
@@ -56,18 +56,17 @@ fn changed(k: usize, to: u8, right: bool)
     let mut p = P;
     p[k] = to;
     if right {
-        put_right(&mut p);
+        put_right(&mut p, 11);
         line(&p, k, to, b", check code right again");
     } else {
         line(&p, k, to, b"");
     }
 }
 
-// The check code of all but the last two bytes, into these.
-pub fn put_right(p: &mut [u8])
-    requires { ⌜ 2 ≤ length (now p) ⌝ }
+// Behind the first `end` bytes, their check code.
+pub fn put_right(p: &mut [u8], end: usize)
+    requires { ⌜ end + 2 ≤ length (now p) ⌝ }
 {
-    let end = p.len() - 2;
     let code = check_code::of(&p[..end]);
     words::write(p, end, 2, code as u64);
 }

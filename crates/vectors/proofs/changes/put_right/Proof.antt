@@ -15,7 +15,6 @@ put-right-spec =
     tie.close
     (tie.spec
     (λ c. search needs)
-    (λ c. search needs)
     slice-aggregate-of
     (λ c κs. search needs)
     (λ c. search needs)
