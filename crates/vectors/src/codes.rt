@@ -3,11 +3,20 @@ use crate::print;
 ghost use Prim.Native.Nat.{_<_};
 
 pub fn lines() {
-    line(b"", b"nothing");
+    published();
+    worked();
+    every_byte();
+}
+
+fn published() {
     line(b"\x00\x00", b"ECSS-E-70-41A annex A");
     line(b"\x00\x00\x00", b"ECSS-E-70-41A annex A");
     line(b"\xAB\xCD\xEF\x01", b"ECSS-E-70-41A annex A");
     line(b"\x14\x56\xF8\x9A\x00\x01", b"ECSS-E-70-41A annex A");
+}
+
+fn worked() {
+    line(b"", b"nothing");
     line(b"123456789", b"the ASCII digits 1 to 9");
     line(
         b"\x18\x02\xC0\x11\x00\x06\x2F\x11\x01\x00\x00",
@@ -17,7 +26,6 @@ pub fn lines() {
         b"\x18\x02\xC0\x11\x00\x06\x2F\x11\x01\x00\x00\xDD\xB5",
         b"P with its check bytes",
     );
-    every_byte();
 }
 
 fn line(bytes: &[u8], what: &[u8]) {

@@ -5,16 +5,22 @@ use packet::Header;
 use packet::Reading;
 
 pub fn lines() {
+    short();
     lengths();
     totals();
+    last_byte();
     data();
     fields();
+    each_field();
+}
+
+fn short() {
+    line(b"", b"nothing given");
+    line(b"\x18", b"1 byte");
 }
 
 // 12, 13 and 14 bytes, and bytes behind the total.
 fn lengths() {
-    line(b"", b"nothing given");
-    line(b"\x18", b"1 byte");
     line(
         b"\x18\x02\xC0\x11\x00\x06\x2F\x11\x01\x00\x00\xDD",
         b"P without its last byte: 12 bytes",
@@ -44,6 +50,14 @@ fn totals() {
         b"total 12 with its check code, 13 bytes given",
     );
     line(
+        b"\x18\x02\xC0\x11\xFF\xFF\x2F\x11\x01\x00\x00\xDD\xB5",
+        b"total 65542, 13 bytes given",
+    );
+}
+
+// A packet of 14 bytes without its last, whole, and with one behind it.
+fn last_byte() {
+    line(
         b"\x18\x02\xC0\x11\x00\x07\x2F\x11\x01\x00\x00\xAA\x03",
         b"total 14, one byte short",
     );
@@ -54,10 +68,6 @@ fn totals() {
     line(
         b"\x18\x02\xC0\x11\x00\x07\x2F\x11\x01\x00\x00\xAA\x03\x11\xFF",
         b"total 14, one byte long",
-    );
-    line(
-        b"\x18\x02\xC0\x11\xFF\xFF\x2F\x11\x01\x00\x00\xDD\xB5",
-        b"total 65542, 13 bytes given",
     );
 }
 
@@ -82,6 +92,9 @@ fn fields() {
         b"\x1F\xFF\xFF\xFF\x00\x06\x2F\xFF\xFF\xFF\xFF\x06\x14",
         b"every field at its most",
     );
+}
+
+fn each_field() {
     line(
         b"\x1F\xFF\xC0\x11\x00\x06\x2F\x11\x01\x00\x00\x47\x86",
         b"APID of 11 ones",
@@ -124,18 +137,12 @@ pub fn answer(bytes: &[u8]) {
 }
 
 fn header(h: Header) {
-    print::text(b"service ");
-    print::decimal(h.service as u64);
-    print::text(b", subservice ");
-    print::decimal(h.subservice as u64);
-    print::text(b", source ");
-    print::decimal(h.source_id as u64);
-    print::text(b", APID ");
-    print::decimal(h.apid as u64);
-    print::text(b", sequence count ");
-    print::decimal(h.seq_count as u64);
-    print::text(b", total ");
-    print::decimal(h.total as u64);
+    print::field(b"service ", h.service as u64);
+    print::field(b", subservice ", h.subservice as u64);
+    print::field(b", source ", h.source_id as u64);
+    print::field(b", APID ", h.apid as u64);
+    print::field(b", sequence count ", h.seq_count as u64);
+    print::field(b", total ", h.total as u64);
     print::text(b", request ID ");
     print::hex_u64(h.request_id().as_u64());
 }

@@ -69,6 +69,12 @@ pub fn bytes(s: &[u8]) {
     }
 }
 
+// A number behind its name.
+pub fn field(name: &[u8], n: u64) {
+    text(name);
+    decimal(n);
+}
+
 // What a case is, behind its input.
 pub fn case(what: &[u8]) {
     text(b" (");

@@ -3,21 +3,28 @@ use crate::print;
 use stamp::Stamp;
 
 pub fn lines() {
-    first_bytes();
-    short();
-    days();
+    near_40();
+    near_44();
+    short_40();
+    short_44();
+    days_40();
+    days_44();
     milliseconds();
+    last_milliseconds();
     behind();
     every_first_byte();
 }
 
 // First bytes at and beside 0x40 and 0x44.
-fn first_bytes() {
+fn near_40() {
     line(b"\x00\x11\x1F\x00\x00\x00\x00\x00", b"first byte 00");
     line(b"\x3F\x11\x1F\x00\x00\x00\x00\x00", b"first byte 3F");
     line(b"\x40\x11\x1F\x00\x00\x00\x00\x00", b"first byte 40");
     line(b"\x41\x11\x1F\x00\x00\x00\x00\x00", b"first byte 41");
     line(b"\x42\x11\x1F\x00\x00\x00\x00\x00", b"first byte 42");
+}
+
+fn near_44() {
     line(b"\x43\x11\x1F\x00\x00\x00\x00\x00", b"first byte 43");
     line(b"\x44\x00\x11\x1F\x00\x00\x00\x00", b"first byte 44");
     line(b"\x45\x00\x11\x1F\x00\x00\x00\x00", b"first byte 45");
@@ -25,11 +32,14 @@ fn first_bytes() {
     line(b"\xFF\x11\x1F\x00\x00\x00\x00\x00", b"first byte FF");
 }
 
-fn short() {
+fn short_40() {
     line(b"", b"nothing given");
     line(b"\x40", b"16-bit day, 1 byte");
     line(b"\x40\x11\x1F\x00\x00\x00", b"16-bit day, one byte short");
     line(b"\x40\x11\x1F\x00\x00\x00\x00", b"16-bit day, 7 bytes");
+}
+
+fn short_44() {
     line(b"\x44", b"24-bit day, 1 byte");
     line(
         b"\x44\x00\x11\x1F\x00\x00\x00",
@@ -38,12 +48,15 @@ fn short() {
     line(b"\x44\x00\x11\x1F\x00\x00\x00\x00", b"24-bit day, 8 bytes");
 }
 
-fn days() {
+fn days_40() {
     line(b"\x40\x00\x00\x00\x00\x00\x00", b"day 0");
     line(b"\x40\x11\x1E\x00\x00\x00\x00", b"day 4382");
     line(b"\x40\x11\x1F\x00\x00\x00\x00", b"day 4383");
     line(b"\x40\x11\x20\x00\x00\x00\x00", b"day 4384");
     line(b"\x40\xFF\xFF\x00\x00\x00\x00", b"day 65535");
+}
+
+fn days_44() {
     line(b"\x44\x00\x00\x00\x00\x00\x00\x00", b"day 0");
     line(b"\x44\x01\x00\x00\x00\x00\x00\x00", b"day 65536");
     line(b"\x44\xFF\xFF\xFF\x00\x00\x00\x00", b"day 16777215");
@@ -58,6 +71,9 @@ fn milliseconds() {
     line(b"\x40\x11\x1F\x00\x00\x03\xE7", b"ms 999");
     line(b"\x40\x11\x1F\x00\x00\x03\xE8", b"ms 1000");
     line(b"\x40\x11\x1F\x00\x00\x05\xDC", b"ms 1500");
+}
+
+fn last_milliseconds() {
     line(b"\x40\x11\x1E\x05\x26\x5B\xFF", b"day 4382, ms 86399999");
     line(b"\x40\x11\x1F\x05\x26\x5B\xFF", b"ms 86399999");
     line(b"\x40\x11\x1F\x05\x26\x5C\x00", b"ms 86400000");

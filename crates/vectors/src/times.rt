@@ -5,26 +5,35 @@ use time::UnixTime;
 ghost use Rattle.time.specs.Time.{InRange};
 
 pub fn lines() {
-    times();
+    around_0();
+    first();
+    last();
     margins();
+    margin_ends();
 }
 
-fn times() {
+fn around_0() {
     time(0, 0);
     time(-1, 0);
     time(-1, 999999999);
     time(0, 1000000000);
     time(0, 4294967295);
+}
+
+fn first() {
     time(-4398046511104, 0);
     time(-4398046511104, 999999999);
     time(-4398046511104, 1000000000);
     time(-4398046511105, 0);
     time(-4398046511105, 999999999);
+    time(-9223372036854775808, 0);
+}
+
+fn last() {
     time(4398046511104, 0);
     time(4398046511104, 999999999);
     time(4398046511104, 1000000000);
     time(4398046511105, 0);
-    time(-9223372036854775808, 0);
     time(9223372036854775807, 0);
 }
 
@@ -32,6 +41,9 @@ fn margins() {
     margin(0, 0);
     margin(0, 999999999);
     margin(0, 1000000000);
+}
+
+fn margin_ends() {
     margin(2147483648, 0);
     margin(2147483648, 999999999);
     margin(2147483648, 1000000000);
