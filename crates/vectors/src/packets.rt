@@ -12,6 +12,7 @@ pub fn lines() {
     data();
     fields();
     each_field();
+    several();
 }
 
 fn short() {
@@ -114,6 +115,26 @@ fn each_field() {
     line(
         b"\x18\x02\xC0\x11\x00\x06\x2F\xFF\xFF\x00\x00\x03\x56",
         b"service and subservice 255",
+    );
+}
+
+// Of several faults the first test's is named.
+fn several() {
+    line(
+        b"\xFF\xFF\xFF\xFF\xFF\xFF\xFF\xFF\xFF\xFF\xFF\xFF",
+        b"length, total, header bits and nibble wrong",
+    );
+    line(
+        b"\xFF\xFF\xFF\xFF\xFF\xFF\xFF\xFF\xFF\xFF\xFF\xFF\xFF",
+        b"total, header bits and nibble wrong",
+    );
+    line(
+        b"\x00\x02\xC0\x11\x00\x06\x0F\x11\x01\x00\x00\xDD\xB5",
+        b"header bits, nibble and check bytes wrong",
+    );
+    line(
+        b"\x18\x02\xC0\x11\x00\x06\x0F\x11\x01\x00\x00\xDD\xB5",
+        b"nibble and check bytes wrong",
     );
 }
 
