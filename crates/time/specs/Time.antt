@@ -68,5 +68,6 @@ pub record MarginInRange (m : Margin) : Type 0 where
   pub secs : m .secs ≤ 2147483648
   pub nanos : m .nanos < giga
 
+-- a moment may lie past every time, once a margin was added: only its nanoseconds are bounded
 pub record MomentInRange (m : Moment) : Type 0 where
   pub nanos : m .nanos < giga

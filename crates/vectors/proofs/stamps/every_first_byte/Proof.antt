@@ -1,0 +1,33 @@
+-- `vectors::stamps::every_first_byte` is safe and ends: the measure is the first bytes that are left.
+-- Assumes nothing.
+use Prim.Native.Nat.{_-_}
+use borrow.Author.Needs.{needs}
+use Rattle.vectors.proofs.stamps.every_first_byte.Statement.{statement}
+use Rattle.vectors.proofs.stamps.every_first_byte.Tie as tie
+
+abbrev Inv-loop : tie.InvT-loop
+Inv-loop form₀ t3 form = Unit {0}
+
+abbrev μ-loop : tie.MeasureT-loop
+μ-loop form₀ t3 form = 256 - form
+
+pub every-first-byte-spec : {M : Type 1} → statement M
+every-first-byte-spec =
+    tie.close
+    (tie.spec
+    Inv-loop
+    μ-loop
+    (λ c. search needs)
+    (λ c κs. search needs)
+    (λ c. search needs)
+    (λ c. search needs)
+    (λ c κs. search needs)
+    (λ c. search needs)
+    (λ c κs. search needs)
+    (λ c. search needs)
+    (λ c κs. search needs)
+    (λ c. search needs)
+    (λ c. search needs)
+    (λ c. search needs)
+    (λ c κs. search needs)
+    (λ c. search needs))
