@@ -4,14 +4,14 @@ use Rattle.client.specs.Answers.{oneIfDone}
 use Rattle.client.specs.Sweep.{countAll, one, sweepIn, without, withoutAll}
 use Rattle.rules.specs.Papers.{Paper, after, done, no, says}
 use Rattle.store.proofs.Laid.{leaves-as, leaves-now, leaves-same, leaves-then}
-use Rattle.store.proofs.Papers.{not-done}
-use Rattle.store.proofs.Stays.{delete-stays}
+use Rattle.store.proofs.Numbers.{not-done}
 use Rattle.store.specs.Calls.{deleteIn, ifHeld, ifNamed}
 use Rattle.store.specs.Judge.{Sound}
 use Rattle.store.specs.Pools.{Found, Pool, edit, find, held, noPool, noSlot, vacant, wipe}
 use Rattle.store.specs.Promise.{Does}
 use Rattle.store.specs.Refusals.{deletedPaper}
 use Rattle.store.specs.View.{Leaves, view}
+use Rattle.store_laws.proofs.StaysSound.{delete-stays}
 use lib.ListN.{drop, drop-of-length-le, getD, length}
 use lib.Seq.{drop-cons}
 use mathlib.Core.List.{List, [], _∷_}
@@ -63,7 +63,7 @@ going-next su st₀ le₀ addrs st le gone i g l r o st′ le′ d e f =
     record {
       at-most = omega arith;
       few = omega (arith, g .few);
-      sound = delete-stays su st le (getD addrs i 0) (deletedPaper r) st′ le′ (g .sound) d;
+      sound = delete-stays su st le (g .sound) (getD addrs i 0) (deletedPaper r) st′ le′ d;
       frame = leaves-then su st₀ le₀ (view su st le) (view su st′ le′) st le st′ le′ (g .frame) (leaves-now su st le _ st′ le′ (d .lists));
       goes = ap (withoutAll (drop (i + 1) addrs)) v ∙ rw x at (g .goes);
       counts = omega arith;

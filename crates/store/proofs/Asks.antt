@@ -3,13 +3,16 @@ use Prim.Native.Nat.{_+_, _<_, _≤_, ℕ}
 use Rattle.rules.specs.Papers.{Outcome, Paper, after, done, no, refused, says}
 use Rattle.rules.specs.Tests.{unless}
 use Rattle.store.proofs.Find.{find-held, find-no-pool, find-no-slot, find-vacant}
+use Rattle.store.proofs.Judging.{Judges, judging-fine, judging-refused}
 use Rattle.store.proofs.Packets.{Packet, spot-refused}
 use Rattle.store.proofs.Place.{valid-at, valid-pool, valid-slot, valid-yes}
-use Rattle.store.specs.Calls.{hasIn, ifFine, ifHeld, ifNamed, judging, lenIn, packetIn, readIn}
+use Rattle.store.specs.Address.{addressOf, poolOf, slotOf}
+use Rattle.store.specs.Calls.{hasIn, ifHeld, ifNamed, judging, lenIn, packetIn, readIn}
 use Rattle.store.specs.Inside.{cellOf, spotOf, validated}
-use Rattle.store.specs.Judge.{Sound, judged}
+use Rattle.store.specs.Judge.{Sound}
 use Rattle.store.specs.Layout.{slotsAt}
-use Rattle.store.specs.Pools.{Found, Pool, addressOf, find, held, noPool, noSlot, over, poolOf, slotOf, vacant}
+use Rattle.store.specs.Limits.{maxSlotSize, storeFree}
+use Rattle.store.specs.Pools.{Found, Pool, find, held, noPool, noSlot, over, vacant}
 use Rattle.store.specs.Promise.{Finds, Lends, Reads, foundAs, startOf}
 use Rattle.store.specs.Refusals.{lengthPaper, paper, presencePaper}
 use Rattle.store.specs.View.{bytesAt, part, view}
@@ -25,11 +28,12 @@ use mathlib.Core.Path.{_∙_, _≡_, ap, ap₂, refl, subst, sym}
 use native.Mathlib.Omega.{arith}
 use Rattle.store.specs.declared.Setup.{Setup}
 use Rattle.store.specs.declared.Span.{Span}
-use Rattle.store.specs.declared.Cell.{Cell}
+use Rattle.store.specs.declared.layout.Cell.{Cell}
 use Rattle.store.specs.declared.StoreRefusal.{StoreRefusal}
 use Rattle.store.specs.declared.StoreRefusal.the-variants.{BufferTooSmall}
-use Rattle.store.specs.declared.Spot.{Spot}
-use Rattle.store.specs.declared.Spot.the-variants as Sp
+use Rattle.store.specs.declared.search.Spot.{Spot}
+use Rattle.store.specs.declared.search.Spot.the-variants as Sp
+use Rattle.store.specs.declared.Verdict.{Verdict}
 use Rattle.store.specs.declared.Verdict.the-variants as Ve
 use Rattle.store.specs.declared.Whereabouts.{Whereabouts}
 use Rattle.store.specs.declared.Whereabouts.the-variants as Wh
@@ -37,29 +41,21 @@ use Rattle.store.specs.declared.Length.{Length}
 use Rattle.store.specs.declared.Length.the-variants as Le
 use Rattle.store.specs.declared.Presence.the-variants as Pr
 
--- judged first
+-- a call that answers alone
 module _ {A : Type 0} (su : Setup) (st le : List ℕ) (call : List Pool → Outcome A) where
-  pub judging-fine : Sound su st le → judging su st le call ≡ call (view su st le)
-  unfolding judging ifFine
-  judging-fine s = rw (s .fine)
-
-  pub judging-refused : (e : StoreRefusal) → judged su (length st) le ≡ Ve.Refused e → judging su st le call ≡ refused (paper e)
-  unfolding judging ifFine
-  judging-refused e q = rw q
-
   pub asks-fine : (p : Paper) → Sound su st le → p ≡ says (call (view su st le)) → p ≡ says (judging su st le call)
-  asks-fine p s q = rw (judging-fine s) q
+  asks-fine p s q = rw (judging-fine su st le call s) q
 
-  pub asks-refused : (e : StoreRefusal) → judged su (length st) le ≡ Ve.Refused e → paper e ≡ says (judging su st le call)
+  pub asks-refused : (v : Verdict) (e : StoreRefusal) → Judges su (length st) le v → v ≡ Ve.Refused e → paper e ≡ says (judging su st le call)
   unfolding says
-  asks-refused e q = rw (judging-refused e q)
+  asks-refused v e j q = rw (judging-refused su st le call v e j q)
 
 pub reads-fine : (su : Setup) (st le : List ℕ) (call : List Pool → Outcome (List ℕ)) (buf : List ℕ) (p : Paper) (buf′ : List ℕ) → Sound su st le → Reads (call (view su st le)) buf p buf′ → Reads (judging su st le call) buf p buf′
 reads-fine su st le call buf p buf′ s r = rw (judging-fine su st le call s) r
 
-pub reads-refused : (su : Setup) (st le : List ℕ) (call : List Pool → Outcome (List ℕ)) (buf : List ℕ) (e : StoreRefusal) → judged su (length st) le ≡ Ve.Refused e → Reads (judging su st le call) buf (paper e) buf
+pub reads-refused : (su : Setup) (st le : List ℕ) (call : List Pool → Outcome (List ℕ)) (buf : List ℕ) (v : Verdict) (e : StoreRefusal) → Judges su (length st) le v → v ≡ Ve.Refused e → Reads (judging su st le call) buf (paper e) buf
 unfolding says after
-reads-refused su st le call buf e q = rw (judging-refused su st le call e q) (record { answer = refl; buffer = refl })
+reads-refused su st le call buf v e j q = rw (judging-refused su st le call v e j q) (record { answer = refl; buffer = refl })
 
 -- find
 module _ (su : Setup) (st le : List ℕ) (a : ℕ) where
@@ -120,7 +116,7 @@ module _ (su : Setup) (st le : List ℕ) (a : ℕ) where
         let h = found-held-at s (subst (λ (x : Whereabouts). Finds su st le a x) q f) in
         rw (h .1, le-leb _ _ l) (record { answer = refl; buffer = e ∙ ap (λ (x : List ℕ). over x buf) (sym (h .2)) })
 
-  pub span-inside : (r : Whereabouts) (s : Span) → Finds su st le a r → r ≡ Wh.At s → (s .from ≡ startOf su a) × (s .from + s .len ≤ length st) × (s .len ≤ 4096)
+  pub span-inside : (r : Whereabouts) (s : Span) → Finds su st le a r → r ≡ Wh.At s → (s .from ≡ startOf su a) × (s .from + s .len ≤ length st) × (s .len ≤ maxSlotSize)
   span-inside r s f q = (subst (λ (x : Whereabouts). Finds su st le a x) q f) .inside
 
   -- modify
@@ -137,8 +133,8 @@ module _ (su : Setup) (st le : List ℕ) (a : ℕ) where
   unfolding after part
   lends-none p q = record { bytes = rw q; start = rw q; inside = omega arith }
 
-  pub lends-judge : (e : StoreRefusal) → judged su (length st) le ≡ Ve.Refused e → Lends su st le a (record { from = 0; len = 0 })
-  lends-judge e q = lends-none (paper e) (judging-refused su st le (λ ps. packetIn ps a) e q)
+  pub lends-judge : (v : Verdict) (e : StoreRefusal) → Judges su (length st) le v → v ≡ Ve.Refused e → Lends su st le a (record { from = 0; len = 0 })
+  lends-judge v e j q = lends-none (paper e) (judging-refused su st le (λ ps. packetIn ps a) v e j q)
 
   pub lends-refused : Sound su st le → (r : Whereabouts) (e : StoreRefusal) → Finds su st le a r → r ≡ Wh.Refused e → Lends su st le a (record { from = 0; len = 0 })
   unfolding foundAs
@@ -177,10 +173,10 @@ module _ (su : Setup) (st le : List ℕ) (a k s : ℕ) (p : k ≡ poolOf a) (q :
   here : (c : Cell) → validated su k s ≡ Sp.At c → (poolOf a < su .pools) × (slotOf a < slotsAt su (poolOf a)) × (c ≡ cellOf su (poolOf a) (slotOf a))
   here c v = valid-at su (poolOf a) (slotOf a) c (ap₂ (validated su) (sym p) (sym q) ∙ v)
 
-  here-vacant : (c : Cell) → validated su k s ≡ Sp.At c → getD le (c .row) 0 ≡ 65535 → find (view su st le) a ≡ vacant
+  here-vacant : (c : Cell) → validated su k s ≡ Sp.At c → getD le (c .row) 0 ≡ storeFree → find (view su st le) a ≡ vacant
   here-vacant c v e = let i = here c v in find-vacant su st le (poolOf a) (slotOf a) (i .0) (i .1) (ap (λ (x : Cell). getD le (x .row) 0) (sym (i .2)) ∙ e)
 
-  here-held : (c : Cell) → validated su k s ≡ Sp.At c → (getD le (c .row) 0 ≡ 65535 → ⊥) → find (view su st le) a ≡ held (getD le (c .row) 0) (bytesAt su st (poolOf a) (slotOf a))
+  here-held : (c : Cell) → validated su k s ≡ Sp.At c → (getD le (c .row) 0 ≡ storeFree → ⊥) → find (view su st le) a ≡ held (getD le (c .row) 0) (bytesAt su st (poolOf a) (slotOf a))
   here-held c v e =
       let i = here c v in
       find-held su st le (poolOf a) (slotOf a) (i .0) (i .1) (λ g. e (ap (λ (x : Cell). getD le (x .row) 0) (i .2) ∙ g)) ∙ ap (λ (x : Cell). held (getD le (x .row) 0) (bytesAt su st (poolOf a) (slotOf a))) (sym (i .2))
@@ -189,11 +185,11 @@ module _ (su : Setup) (st le : List ℕ) (a k s : ℕ) (p : k ≡ poolOf a) (q :
   unfolding hasIn ifNamed says presencePaper
   has-refused e v = ⊎-elim (λ h. rw (h .0) (h .1)) (λ h. rw (h .0) (h .1)) (invalid-cases e v)
 
-  pub has-vacant : (c : Cell) → validated su k s ≡ Sp.At c → getD le (c .row) 0 ≡ 65535 → presencePaper (Pr.Is false) ≡ says (hasIn (view su st le) a)
+  pub has-vacant : (c : Cell) → validated su k s ≡ Sp.At c → getD le (c .row) 0 ≡ storeFree → presencePaper (Pr.Is false) ≡ says (hasIn (view su st le) a)
   unfolding hasIn ifNamed says presencePaper
   has-vacant c v e = rw (here-vacant c v e)
 
-  pub has-held : (c : Cell) → validated su k s ≡ Sp.At c → (getD le (c .row) 0 ≡ 65535 → ⊥) → presencePaper (Pr.Is true) ≡ says (hasIn (view su st le) a)
+  pub has-held : (c : Cell) → validated su k s ≡ Sp.At c → (getD le (c .row) 0 ≡ storeFree → ⊥) → presencePaper (Pr.Is true) ≡ says (hasIn (view su st le) a)
   unfolding hasIn ifNamed says presencePaper
   has-held c v e = rw (here-held c v e)
 
@@ -201,10 +197,10 @@ module _ (su : Setup) (st le : List ℕ) (a k s : ℕ) (p : k ≡ poolOf a) (q :
   unfolding lenIn ifNamed says lengthPaper
   len-refused e v = ⊎-elim (λ h. rw (h .0) (h .1)) (λ h. rw (h .0) (h .1)) (invalid-cases e v)
 
-  pub len-vacant : (c : Cell) → validated su k s ≡ Sp.At c → getD le (c .row) 0 ≡ 65535 → lengthPaper (Le.Of 0) ≡ says (lenIn (view su st le) a)
+  pub len-vacant : (c : Cell) → validated su k s ≡ Sp.At c → getD le (c .row) 0 ≡ storeFree → lengthPaper (Le.Of 0) ≡ says (lenIn (view su st le) a)
   unfolding lenIn ifNamed says lengthPaper
   len-vacant c v e = rw (here-vacant c v e)
 
-  pub len-held : (c : Cell) → validated su k s ≡ Sp.At c → (getD le (c .row) 0 ≡ 65535 → ⊥) → (n : ℕ) → n ≡ getD le (c .row) 0 → lengthPaper (Le.Of n) ≡ says (lenIn (view su st le) a)
+  pub len-held : (c : Cell) → validated su k s ≡ Sp.At c → (getD le (c .row) 0 ≡ storeFree → ⊥) → (n : ℕ) → n ≡ getD le (c .row) 0 → lengthPaper (Le.Of n) ≡ says (lenIn (view su st le) a)
   unfolding lenIn ifNamed says lengthPaper
   len-held c v e n f = rw (here-held c v e, f)

@@ -1,20 +1,21 @@
 -- What is known where room was chosen, or refused.
 use Prim.Native.Nat.{_*_, _+_, _<_, _≤_, suc, zero, ℕ}
-use Rattle.rules.specs.Papers.{Paper, after, no, refused}
-use Rattle.store.proofs.Bounds.{bounds, fine}
+use Rattle.rules.specs.Papers.{Paper, no, refused}
+use Rattle.store.proofs.Bounds.{bounds}
 use Rattle.store.proofs.Edit.{leaves-fill}
 use Rattle.store.proofs.Find.{find-held, find-no-pool, find-no-slot}
 use Rattle.store.proofs.Promises.{does-done, does-refused}
-use Rattle.store.proofs.Stays.{Fitting, edit-fits, fill-fits, sizeIn, stays, view-fits}
 use Rattle.store.proofs.Wrote.{Within, within}
+use Rattle.store.specs.Address.{addressOf}
 use Rattle.store.specs.Calls.{addIn, place}
-use Rattle.store.specs.Inside.{cellOf, put, roomOf}
+use Rattle.store.specs.Inside.{cellOf, roomOf}
 use Rattle.store.specs.Judge.{Sound}
 use Rattle.store.specs.Layout.{bytesBefore, rowsBefore, sizeAt, slotsAt}
-use Rattle.store.specs.Pools.{Choice, Found, Pool, Slot, addressOf, allTaken, choose, editAt, fill, findAt, findSlot, free, held, into, lowest, next, noPool, noSlot, over, pick, shift, spillInto, taken, tooLarge, vacant}
+use Rattle.store.specs.Limits.{storeFree}
+use Rattle.store.specs.Pools.{Choice, Found, Pool, Slot, allTaken, choose, editAt, fill, findAt, findSlot, free, held, into, lowest, next, noPool, noSlot, over, pick, shift, spillInto, taken, tooLarge, vacant}
 use Rattle.store.specs.Promise.{Does}
 use Rattle.store.specs.Refusals.{addedPaper, paper}
-use Rattle.store.specs.View.{each, part, poolIn, view}
+use Rattle.store.specs.View.{each, part, poolIn, put, view}
 use borrow.Author.Tests.{eqb-false, eqb-true, leb-true, ltb-false, ltb-true}
 use lib.Dec.{eqb, leb, ltb}
 use lib.ListN.{getD, length, set}
@@ -25,18 +26,24 @@ use mathlib.Core.Path.{_∙_, _≡_, ap, refl, subst, sym}
 use native.Mathlib.Nat.{not-suc-le-zero}
 use native.Mathlib.Omega.{arith}
 use Rattle.store.specs.declared.Setup.{Setup}
-use Rattle.store.specs.declared.Cell.{Cell}
+use Rattle.store.specs.declared.layout.Cell.{Cell}
 use Rattle.store.specs.declared.StoreRefusal.{StoreRefusal}
-use Rattle.store.specs.declared.Spot.{Spot}
-use Rattle.store.specs.declared.Spot.the-variants.{Refused, At}
+use Rattle.store.specs.declared.search.Spot.{Spot}
+use Rattle.store.specs.declared.search.Spot.the-variants.{Refused, At}
 use Rattle.store.specs.declared.Added.the-variants as Ad
+
+-- the slot size of a subpool
+unfoldable pub sizeIn : List Pool → ℕ → ℕ
+sizeIn [] k = 0
+sizeIn (p ∷ ps) zero = p .size
+sizeIn (p ∷ ps) (suc k) = sizeIn ps k
 
 -- what is chosen is vacant, and holds the bytes
 abbrev OpenIn : List Slot → Option ℕ → Type 0
 OpenIn xs none = Unit {0}
 OpenIn xs (some i) = findSlot xs i ≡ vacant
 
-abbrev Open : List Pool → ℕ → Choice → Type 0
+abbrev pub Open : List Pool → ℕ → Choice → Type 0
 Open ps n tooLarge = Unit {0}
 Open ps n (allTaken k) = Unit {0}
 Open ps n (into k i) = (findAt ps k i ≡ vacant) × (n ≤ sizeIn ps k)
@@ -68,7 +75,7 @@ pick-open sp false p ps n o r e h g = g
 pick-open sp true p ps n (some i) r e h g = (h, leb-true _ _ e)
 pick-open sp true p ps n none r e h g = spill-open sp (p ∷ ps) n r g
 
-choose-open : (sp : Bool) (ps : List Pool) (n : ℕ) → Open ps n (choose sp ps n)
+pub choose-open : (sp : Bool) (ps : List Pool) (n : ℕ) → Open ps n (choose sp ps n)
 unfolding choose
 choose-open sp [] n = tt
 choose-open sp (p ∷ ps) n = pick-open sp (leb n (p .size)) p ps n (lowest (p .slots)) (shift (choose sp ps n)) refl (lowest-open (p .slots)) (shift-open p ps n (choose sp ps n) (choose-open sp ps n))
@@ -88,7 +95,7 @@ pub record Room (su : Setup) (st le : List ℕ) (n : ℕ) (c : Cell) : Type 0 wh
   pub inside : Within su (length st) le c
   pub chosen : choose (su .spill) (view su st le) n ≡ into (c .pool) (c .slot)
   pub vacant-there : findAt (view su st le) (c .pool) (c .slot) ≡ vacant
-  pub is-free : getD le (c .row) 0 ≡ 65535
+  pub is-free : getD le (c .row) 0 ≡ storeFree
   pub holds : n ≤ c .size
 
 vacant-is : (x : Found) → x ≡ noPool → x ≡ vacant → ⊥
@@ -101,18 +108,18 @@ vacant-held : (x : Found) (n : ℕ) (b : List ℕ) → x ≡ held n b → x ≡ 
 vacant-held x n b p q = let z : _≡_ {A = ℕ} 0 1 = cc in omega arith
 
 module _ (su : Setup) (st le : List ℕ) (k i : ℕ) (q : findAt (view su st le) k i ≡ vacant) where
-  vacant-inside : (k < su .pools) × (i < slotsAt su k) × (getD le (rowsBefore su k + i) 0 ≡ 65535)
+  vacant-inside : (k < su .pools) × (i < slotsAt su k) × (getD le (rowsBefore su k + i) 0 ≡ storeFree)
   vacant-inside = in-pool (ltb k (su .pools)) refl
     where
-      in-row : (t : Bool) → eqb (getD le (rowsBefore su k + i) 0) 65535 ≡ t → k < su .pools → i < slotsAt su k → (k < su .pools) × (i < slotsAt su k) × (getD le (rowsBefore su k + i) 0 ≡ 65535)
+      in-row : (t : Bool) → eqb (getD le (rowsBefore su k + i) 0) storeFree ≡ t → k < su .pools → i < slotsAt su k → (k < su .pools) × (i < slotsAt su k) × (getD le (rowsBefore su k + i) 0 ≡ storeFree)
       in-row true e l m = (l, m, eqb-true _ _ e)
       in-row false e l m = absurd (vacant-held _ _ _ (find-held su st le k i l m (eqb-false _ _ e)) q)
 
-      in-slot : (t : Bool) → ltb i (slotsAt su k) ≡ t → k < su .pools → (k < su .pools) × (i < slotsAt su k) × (getD le (rowsBefore su k + i) 0 ≡ 65535)
-      in-slot true e l = in-row (eqb (getD le (rowsBefore su k + i) 0) 65535) refl l (ltb-true _ _ e)
+      in-slot : (t : Bool) → ltb i (slotsAt su k) ≡ t → k < su .pools → (k < su .pools) × (i < slotsAt su k) × (getD le (rowsBefore su k + i) 0 ≡ storeFree)
+      in-slot true e l = in-row (eqb (getD le (rowsBefore su k + i) 0) storeFree) refl l (ltb-true _ _ e)
       in-slot false e l = absurd (vacant-slot _ (find-no-slot su st le k i l (ltb-false _ _ e)) q)
 
-      in-pool : (t : Bool) → ltb k (su .pools) ≡ t → (k < su .pools) × (i < slotsAt su k) × (getD le (rowsBefore su k + i) 0 ≡ 65535)
+      in-pool : (t : Bool) → ltb k (su .pools) ≡ t → (k < su .pools) × (i < slotsAt su k) × (getD le (rowsBefore su k + i) 0 ≡ storeFree)
       in-pool true e = in-slot (ltb i (slotsAt su k)) refl (ltb-true _ _ e)
       in-pool false e = absurd (vacant-is _ (find-no-pool su st le k i (ltb-false _ _ e)) q)
 
@@ -167,13 +174,3 @@ module _ (su : Setup) (st le d : List ℕ) where
       let l = leaves-fill su st le (bounds fine) (c .pool) (c .slot) (w .pool-fits) (w .slot-fits) d (rw row at (k .is-free)) (rw size at (k .holds)) in
       let from : c .from ≡ bytesBefore su (c .pool) + c .slot * sizeAt su (c .pool) = ap (λ (x : Cell). x .from) (k .is) in
       does-done su st le st′ le′ (λ ps. addIn (su .spill) ps d) (a ∷ []) (editAt (fill d) (view su st le) (c .pool) (c .slot)) (rw (k .chosen, e)) (rw (p, q, from, size, row) l)
-
-add-fits-by : (ps : List Pool) (d : List ℕ) (x : Choice) → Open ps (length d) x → Fitting ps → Fitting (after (place ps d x) ps (λ qs. qs))
-unfolding place after
-add-fits-by ps d tooLarge o h = h
-add-fits-by ps d (allTaken k) o h = h
-add-fits-by ps d (into k i) o h = edit-fits (fill d) ps k i (fill-fits _ d (o .1)) h
-
-pub add-stays : (su : Setup) (st le d : List ℕ) (p : Paper) (st′ le′ : List ℕ) → Sound su st le → Does su st le (λ ps. addIn (su .spill) ps d) p st′ le′ → Sound su st′ le′
-unfolding addIn
-add-stays su st le d p st′ le′ s w = stays su st le _ st′ le′ s (w .lists) (add-fits-by (view su st le) d _ (choose-open (su .spill) (view su st le) (length d)) (view-fits su st le s))

@@ -2,7 +2,9 @@
 use Prim.Native.Nat.{_*_, _+_, _<_, _≤_, suc, zero, ℕ}
 use Rattle.rules.proofs.All.{all-each}
 use Rattle.rules.specs.Tests.{allBelow}
-use Rattle.store.specs.Layout.{bytesBefore, lastSize, lenOk, poolOk, poolOkAt, poolRowsOk, rowOk, rowsBefore, setupOk, sizeAt, slotsAt}
+use Rattle.store.specs.Judge.{lastSize, lenOk, poolLensOk, poolOk, poolOkAt, rowOk, setupOk}
+use Rattle.store.specs.Layout.{bytesBefore, rowsBefore, sizeAt, slotsAt}
+use Rattle.store.specs.Limits.{maxSubpools, storeFree}
 use borrow.Author.Tests.{eq-eqb, le-leb, leb-true, lt-leb, ne-eqb}
 use mathlib.Core.Bool.{Bool, false, or-true, true}
 use mathlib.Core.List.{List}
@@ -57,11 +59,11 @@ unfolding lastSize
 last-more su k = rw add-one
 
 -- how a length's test comes out
-pub len-bad : (size n : ℕ) → (n ≡ 65535 → ⊥) → size < n → lenOk size n ≡ false
-len-bad size n p q = simp (ne-eqb n 65535 p, lt-leb n size q)
+pub len-bad : (size n : ℕ) → (n ≡ storeFree → ⊥) → size < n → lenOk size n ≡ false
+len-bad size n p q = simp (ne-eqb n storeFree p, lt-leb n size q)
 
-pub len-free : (size n : ℕ) → n ≡ 65535 → lenOk size n ≡ true
-len-free size n p = simp (eq-eqb n 65535 p)
+pub len-free : (size n : ℕ) → n ≡ storeFree → lenOk size n ≡ true
+len-free size n p = simp (eq-eqb n storeFree p)
 
 pub len-small : (size n : ℕ) → n ≤ size → lenOk size n ≡ true
 len-small size n p = simp (le-leb n size p, or-true)
@@ -70,9 +72,9 @@ len-small size n p = simp (le-leb n size p, or-true)
 pub pool-test : (su : Setup) (k last size slots : ℕ) (r b : Bool) → last ≡ lastSize su k → size ≡ sizeAt su k → slots ≡ slotsAt su k → r ≡ poolOk last size slots → r ≡ b → poolOkAt su k ≡ b
 pool-test su k last size slots r b p q s e t = cc
 
-pub rows-test : (su : Setup) (lens : List ℕ) (k base count size : ℕ) (r b : Bool) → base ≡ rowsBefore su k → size ≡ sizeAt su k → count ≡ slotsAt su k → r ≡ allBelow (rowOk lens base size) count → r ≡ b → poolRowsOk su lens k ≡ b
+pub rows-test : (su : Setup) (lens : List ℕ) (k base count size : ℕ) (r b : Bool) → base ≡ rowsBefore su k → size ≡ sizeAt su k → count ≡ slotsAt su k → r ≡ allBelow (rowOk lens base size) count → r ≡ b → poolLensOk su lens k ≡ b
 rows-test su lens k base count size r b p q s e t = rw (← p, ← q, ← s, ← e) t
 
-pub setup-few : (su : Setup) → setupOk su ≡ true → su .pools ≤ 8
+pub setup-few : (su : Setup) → setupOk su ≡ true → su .pools ≤ maxSubpools
 unfolding setupOk
 setup-few su q = leb-true _ _ (all-each _ q .1 .0)

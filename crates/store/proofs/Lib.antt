@@ -1,5 +1,8 @@
+-- The facts by which the store's functions are proved.
 pub mod Layouts
 pub mod Bounds
+pub mod Numbers
+pub mod Judging
 pub mod Slots
 pub mod Lists
 pub mod Wrote
@@ -9,12 +12,7 @@ pub mod Place
 pub mod Laid
 pub mod Packets
 pub mod Promises
-pub mod Stays
-pub mod Papers
-pub mod Laws
-pub mod Search
+pub mod Choosing
 pub mod Chosen
 pub mod Asks
 pub mod Start
-pub mod RoundTrip
-pub mod Worked

@@ -4,9 +4,11 @@ use Rattle.rules.proofs.First.{first-end-from, first-stop-from}
 use Rattle.rules.specs.Tests.{firstFrom, unless}
 use Rattle.store.proofs.Find.{find-held, find-no-pool, find-no-slot, find-vacant}
 use Rattle.store.proofs.Layouts.{rows-within}
+use Rattle.store.specs.Address.{addressOf, poolOf, slotOf}
 use Rattle.store.specs.Inside.{cellOf, freeRow, freeSlot, hasFree, lastTried, roomIn, spotOf, validated}
 use Rattle.store.specs.Layout.{allRows, rowsBefore, slotsAt}
-use Rattle.store.specs.Pools.{addressOf, find, poolOf, slotOf}
+use Rattle.store.specs.Limits.{storeFree}
+use Rattle.store.specs.Pools.{find}
 use Rattle.store.specs.View.{view}
 use borrow.Author.Tests.{le-ltb, lt-ltb, ltb-false, ltb-true}
 use lib.Dec.{ltb}
@@ -16,12 +18,12 @@ use mathlib.Core.List.{List}
 use mathlib.Core.Path.{_∙_, _≡_, ap, ap₂, refl, subst, sym}
 use native.Mathlib.Omega.{arith}
 use Rattle.store.specs.declared.Setup.{Setup}
-use Rattle.store.specs.declared.Cell.{Cell}
+use Rattle.store.specs.declared.layout.Cell.{Cell}
 use Rattle.store.specs.declared.StoreRefusal.{StoreRefusal}
 use Rattle.store.specs.declared.StoreRefusal.the-variants.{DataDoesNotExist, InvalidStoreId, DataTooLarge, StoreFull}
 use Rattle.store.specs.declared.StoreIdError.the-variants.{InvalidSubpool, InvalidPacketIdx}
-use Rattle.store.specs.declared.Spot.{Spot}
-use Rattle.store.specs.declared.Spot.the-variants.{Refused, At}
+use Rattle.store.specs.declared.search.Spot.{Spot}
+use Rattle.store.specs.declared.search.Spot.the-variants.{Refused, At}
 
 at-unless : (b : Bool) (e : StoreRefusal) (x : Spot) (c : Cell) → unless b (Refused e) x ≡ At c → (b ≡ true) × (x ≡ At c)
 unfolding unless
@@ -86,11 +88,11 @@ module _ (su : Setup) (st le : List ℕ) (a : ℕ) where
   unfolding spotOf
   spot-no-slot l m = rw (find-no-slot su st le (poolOf a) (slotOf a) l m)
 
-  pub spot-vacant : poolOf a < su .pools → slotOf a < slotsAt su (poolOf a) → getD le (rowsBefore su (poolOf a) + slotOf a) 0 ≡ 65535 → Refused (DataDoesNotExist (addressOf (poolOf a) (slotOf a))) ≡ spotOf su a (find (view su st le) a)
+  pub spot-vacant : poolOf a < su .pools → slotOf a < slotsAt su (poolOf a) → getD le (rowsBefore su (poolOf a) + slotOf a) 0 ≡ storeFree → Refused (DataDoesNotExist (addressOf (poolOf a) (slotOf a))) ≡ spotOf su a (find (view su st le) a)
   unfolding spotOf
   spot-vacant l m e = rw (find-vacant su st le (poolOf a) (slotOf a) l m e)
 
-  pub spot-held : poolOf a < su .pools → slotOf a < slotsAt su (poolOf a) → (getD le (rowsBefore su (poolOf a) + slotOf a) 0 ≡ 65535 → ⊥) → At (cellOf su (poolOf a) (slotOf a)) ≡ spotOf su a (find (view su st le) a)
+  pub spot-held : poolOf a < su .pools → slotOf a < slotsAt su (poolOf a) → (getD le (rowsBefore su (poolOf a) + slotOf a) 0 ≡ storeFree → ⊥) → At (cellOf su (poolOf a) (slotOf a)) ≡ spotOf su a (find (view su st le) a)
   unfolding spotOf
   spot-held l m e = rw (find-held su st le (poolOf a) (slotOf a) l m e)
 
@@ -114,12 +116,12 @@ module _ (su : Setup) (st le : List ℕ) (a k s : ℕ) (p : k ≡ poolOf a) (q :
   named : (c : Cell) → validated su k s ≡ At c → (poolOf a < su .pools) × (slotOf a < slotsAt su (poolOf a)) × (c ≡ cellOf su (poolOf a) (slotOf a))
   named c v = valid-at su (poolOf a) (slotOf a) c (ap₂ (validated su) (sym p) (sym q) ∙ v)
 
-  pub found-vacant : (n : ℕ) (c : Cell) → n ≡ k * 65536 + s → validated su k s ≡ At c → getD le (c .row) 0 ≡ 65535 → Refused (DataDoesNotExist n) ≡ spotOf su a (find (view su st le) a)
+  pub found-vacant : (n : ℕ) (c : Cell) → n ≡ k * 65536 + s → validated su k s ≡ At c → getD le (c .row) 0 ≡ storeFree → Refused (DataDoesNotExist n) ≡ spotOf su a (find (view su st le) a)
   found-vacant n c e v f =
       let i = named c v in
       ap (λ (m : ℕ). Refused (DataDoesNotExist m)) (e ∙ ap₂ addressOf p q) ∙ spot-vacant su st le a (i .0) (i .1) (ap (λ (x : Cell). getD le (x .row) 0) (sym (i .2)) ∙ f)
 
-  pub found-held : (c : Cell) → validated su k s ≡ At c → (getD le (c .row) 0 ≡ 65535 → ⊥) → At c ≡ spotOf su a (find (view su st le) a)
+  pub found-held : (c : Cell) → validated su k s ≡ At c → (getD le (c .row) 0 ≡ storeFree → ⊥) → At c ≡ spotOf su a (find (view su st le) a)
   found-held c v f =
       let i = named c v in
       ap At (i .2) ∙ spot-held su st le a (i .0) (i .1) (λ g. f (ap (λ (x : Cell). getD le (x .row) 0) (i .2) ∙ g))

@@ -1,26 +1,29 @@
 -- The promises, from what the code did to the lists.
 use Prim.Native.Nat.{_≤_, ℕ}
 use Rattle.rules.specs.Papers.{Outcome, Paper, after, done, no, refused, says}
-use Rattle.store.proofs.Bounds.{bounds, fine}
+use Rattle.store.proofs.Bounds.{bounds}
 use Rattle.store.proofs.Edit.{leaves-wipe}
+use Rattle.store.proofs.Judging.{Judges, judging-fine, judging-refused}
 use Rattle.store.proofs.Laid.{leaves-same, lens-laid, same-lens, same-store, store-laid}
 use Rattle.store.proofs.Packets.{Packet, held-inside, spot-refused}
-use Rattle.store.specs.Calls.{deleteIn, ifFine, ifHeld, ifNamed, judging}
-use Rattle.store.specs.Inside.{fits, put, spotOf}
-use Rattle.store.specs.Judge.{Sound, judged}
+use Rattle.store.specs.Address.{poolOf, slotOf}
+use Rattle.store.specs.Calls.{deleteIn, ifHeld, ifNamed, judging}
+use Rattle.store.specs.Inside.{fits, spotOf}
+use Rattle.store.specs.Judge.{Sound}
 use Rattle.store.specs.Layout.{allRows}
-use Rattle.store.specs.Pools.{Pool, edit, find, poolOf, slotOf, wipe}
+use Rattle.store.specs.Limits.{storeFree}
+use Rattle.store.specs.Pools.{Pool, edit, find, wipe}
 use Rattle.store.specs.Promise.{Does, Writes}
 use Rattle.store.specs.Refusals.{deletedPaper, paper}
-use Rattle.store.specs.View.{Leaves, lensWith, storeWith, view}
+use Rattle.store.specs.View.{Leaves, lensWith, put, storeWith, view}
 use lib.ListN.{length, replicate, set}
 use mathlib.Core.List.{List, []}
-use mathlib.Core.Path.{_∙_, _≡_, sym}
+use mathlib.Core.Path.{_∙_, _≡_, refl, sym}
 use Rattle.store.specs.declared.Setup.{Setup}
-use Rattle.store.specs.declared.Cell.{Cell}
+use Rattle.store.specs.declared.layout.Cell.{Cell}
 use Rattle.store.specs.declared.StoreRefusal.{StoreRefusal}
-use Rattle.store.specs.declared.Spot.{Spot}
-use Rattle.store.specs.declared.Spot.the-variants.{Refused, At}
+use Rattle.store.specs.declared.search.Spot.{Spot}
+use Rattle.store.specs.declared.search.Spot.the-variants.{Refused, At}
 use Rattle.store.specs.declared.Verdict.{Verdict}
 use Rattle.store.specs.declared.Verdict.the-variants as Ve
 use Rattle.store.specs.declared.Deleted.the-variants as D
@@ -47,18 +50,18 @@ module _ (su : Setup) (st le st′ le′ : List ℕ) (fits : allRows su ≤ leng
 
 -- a public call: judged first
 module _ (su : Setup) (st le : List ℕ) (call : List Pool → Outcome (List Pool)) where
-  pub writes-refused : (e : StoreRefusal) → judged su (length st) le ≡ Ve.Refused e → Writes su st le (judging su st le call) (paper e) st le
-  unfolding judging ifFine says after
-  writes-refused e q = record { answer = rw q; store = rw q; lens = rw q }
+  pub writes-refused : (v : Verdict) (e : StoreRefusal) → Judges su (length st) le v → v ≡ Ve.Refused e → Writes su st le (judging su st le call) (paper e) st le
+  unfolding says after
+  writes-refused v e j q = rw (judging-refused su st le call v e j q) (record { answer = refl; store = refl; lens = refl })
 
   pub writes : (p : Paper) (st′ le′ : List ℕ) → Sound su st le → Does su st le call p st′ le′ → Writes su st le (judging su st le call) p st′ le′
-  unfolding judging ifFine
   writes p st′ le′ s d =
-      record {
-        answer = rw (s .fine) (d .answer);
-        store = rw (s .fine) (store-by su st le st′ le′ (bounds s .rows-fit) (call (view su st le)) (d .lists));
-        lens = rw (s .fine) (lens-by su st le st′ le′ (bounds s .rows-fit) (call (view su st le)) (d .lists));
-      }
+      rw (judging-fine su st le call s)
+      (record {
+        answer = d .answer;
+        store = store-by su st le st′ le′ (bounds s .rows-fit) (call (view su st le)) (d .lists);
+        lens = lens-by su st le st′ le′ (bounds s .rows-fit) (call (view su st le)) (d .lists);
+      })
 
 -- delete
 module _ (su : Setup) (st le : List ℕ) (a : ℕ) where
@@ -66,7 +69,7 @@ module _ (su : Setup) (st le : List ℕ) (a : ℕ) where
   unfolding deleteIn deletedPaper
   delete-refused r e p q = does-refused su st le _ (paper e) (spot-refused su a _ e _ (sym p ∙ q))
 
-  pub delete-at : Sound su st le → (c : Cell) → Packet su st le a c → (st′ le′ : List ℕ) → st′ ≡ put (c .from) (c .size) (replicate (c .size) 0) st → le′ ≡ set le (c .row) 65535 → Does su st le (λ ps. deleteIn ps a) (deletedPaper D.Done) st′ le′
+  pub delete-at : Sound su st le → (c : Cell) → Packet su st le a c → (st′ le′ : List ℕ) → st′ ≡ put (c .from) (c .size) (replicate (c .size) 0) st → le′ ≡ set le (c .row) storeFree → Does su st le (λ ps. deleteIn ps a) (deletedPaper D.Done) st′ le′
   unfolding deleteIn deletedPaper ifHeld ifNamed
   delete-at fine c k st′ le′ p q =
       let h = held-inside su st le (poolOf a) (slotOf a) _ _ (k .there) in

@@ -2,18 +2,16 @@
 use Prim.Native.Nat.{ℕ}
 use Rattle.rules.specs.Papers.{Outcome, done, no, refused}
 use Rattle.rules.specs.Tests.{unless}
+use Rattle.store.specs.Address.{addressOf, poolOf, slotOf}
 use Rattle.store.specs.Judge.{judged, sized}
 use Rattle.store.specs.Layout.{sizeAt, slotsAt}
-use Rattle.store.specs.Pools.{Choice, Found, Pool, addressOf, allTaken, choose, edit, editAt, fill, find, free, held, into, noPool, noSlot, over, poolOf, slotOf, tooLarge, vacant, wipe}
-use Rattle.store.specs.Refusals.{paper}
+use Rattle.store.specs.Pools.{Choice, Found, Pool, allTaken, choose, edit, editAt, fill, find, free, held, into, noPool, noSlot, over, tooLarge, vacant, wipe}
 use Rattle.store.specs.View.{each, view}
 use lib.Dec.{leb}
 use lib.ListN.{length, replicate, take}
 use mathlib.Core.Bool.{Bool}
 use mathlib.Core.List.{List, [], _∷_}
 use Rattle.store.specs.declared.Setup.{Setup}
-use Rattle.store.specs.declared.Verdict.{Verdict}
-use Rattle.store.specs.declared.Verdict.the-variants as Ve
 
 -- 16 and 17, and else what a free slot gives, or what f makes of the packet
 unfoldable pub ifNamed : {A : Type 0} → ℕ → Found → Outcome A → (ℕ → List ℕ → Outcome A) → Outcome A
@@ -57,14 +55,10 @@ unfoldable pub lenIn : List Pool → ℕ → Outcome (Unit {0})
 lenIn ps a = ifNamed a (find ps a) (done (0 ∷ []) tt) (λ n b. done (n ∷ []) tt)
 
 -- every public call judges first: 1, 2, 3
-unfoldable pub ifFine : {A : Type 0} → Verdict → Outcome A → Outcome A
-ifFine Ve.Fine o = o
-ifFine (Ve.Refused e) o = refused (paper e)
-
 unfoldable pub judging : {A : Type 0} → Setup → List ℕ → List ℕ → (List Pool → Outcome A) → Outcome A
-judging su st le call = ifFine (judged su (length st) le) (call (view su st le))
+judging su st le call = judged su (length st) le (call (view su st le))
 
--- a fresh start: every slot free and zeroed. It judges 1 and 2 alone
+-- a fresh start: it zeroes the store and marks every slot free. It knows 1 and 2 alone
 abbrev pub freshPool : Setup → ℕ → Pool
 freshPool su k = record { size = sizeAt su k; slots = replicate (slotsAt su k) (free (replicate (sizeAt su k) 0)) }
 
@@ -72,4 +66,4 @@ unfoldable pub freshPools : Setup → List Pool
 freshPools su = each (freshPool su) 0 (su .pools)
 
 unfoldable pub freshIn : Setup → List ℕ → List ℕ → Outcome (List Pool)
-freshIn su st le = ifFine (sized su (length st) (length le)) (done [] (freshPools su))
+freshIn su st le = sized su (length st) (length le) (done [] (freshPools su))

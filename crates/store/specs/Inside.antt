@@ -1,18 +1,20 @@
--- What the contracts of private functions cite: the search of the lists for an address or for room, over the model's find and choose.
+-- A reader need not believe this file: only contracts of private functions cite it. The search of the lists for an address or for room.
 use Prim.Native.Nat.{_*_, _+_, _-_, ℕ}
 use Rattle.rules.specs.Tests.{firstFrom, unless}
+use Rattle.store.specs.Address.{addressOf, poolOf, slotOf}
 use Rattle.store.specs.Layout.{bytesBefore, rowsBefore, sizeAt, slotsAt}
-use Rattle.store.specs.Pools.{Choice, Found, addressOf, allTaken, held, into, noPool, noSlot, poolOf, slotOf, tooLarge, vacant}
+use Rattle.store.specs.Limits.{storeFree}
+use Rattle.store.specs.Pools.{Choice, Found, allTaken, held, into, noPool, noSlot, tooLarge, vacant}
 use lib.Dec.{eqb, leb, ltb}
-use lib.ListN.{drop, getD, take}
+use lib.ListN.{getD}
 use mathlib.Core.Bool.{Bool, cond}
-use mathlib.Core.List.{List, _++_}
+use mathlib.Core.List.{List}
 use Rattle.store.specs.declared.Setup.{Setup}
-use Rattle.store.specs.declared.Cell.{Cell}
+use Rattle.store.specs.declared.layout.Cell.{Cell}
 use Rattle.store.specs.declared.StoreIdError.the-variants.{InvalidSubpool, InvalidPacketIdx}
 use Rattle.store.specs.declared.StoreRefusal.the-variants.{InvalidStoreId, DataTooLarge, StoreFull, DataDoesNotExist}
-use Rattle.store.specs.declared.Spot.{Spot}
-use Rattle.store.specs.declared.Spot.the-variants.{Refused, At}
+use Rattle.store.specs.declared.search.Spot.{Spot}
+use Rattle.store.specs.declared.search.Spot.the-variants.{Refused, At}
 
 -- slot i of subpool k in the lent lists
 abbrev pub cellOf : Setup → ℕ → ℕ → Cell
@@ -38,10 +40,6 @@ roomOf su n tooLarge = Refused (DataTooLarge n)
 roomOf su n (allTaken k) = Refused (StoreFull k)
 roomOf su n (into k i) = At (cellOf su k i)
 
--- the list with ys, of which there are size, from a place on
-unfoldable pub put : ℕ → ℕ → List ℕ → List ℕ → List ℕ
-put from size ys st = take from st ++ (ys ++ drop size (drop from st))
-
 -- the address is in the setup
 unfoldable pub validated : Setup → ℕ → ℕ → Spot
 validated su k s =
@@ -54,7 +52,7 @@ abbrev pub fits : Setup → ℕ → ℕ → Bool
 fits su len k = leb len (sizeAt su k)
 
 abbrev pub freeRow : List ℕ → ℕ → ℕ → Bool
-freeRow lens base s = eqb (getD lens (base + s) 0) 65535
+freeRow lens base s = eqb (getD lens (base + s) 0) storeFree
 
 -- the lowest free slot of subpool k, or as many as it has
 unfoldable pub freeSlot : Setup → List ℕ → ℕ → ℕ

@@ -1,9 +1,11 @@
 -- What the calls promise: public calls by equations for the lent lists, judged calls by what the lists stand for.
 use Prim.Native.Nat.{_*_, _+_, _≤_, ℕ}
 use Rattle.rules.specs.Papers.{Outcome, Paper, after, done, refused, says}
+use Rattle.store.specs.Address.{poolOf, slotOf}
 use Rattle.store.specs.Calls.{judging, packetIn}
 use Rattle.store.specs.Layout.{bytesBefore, sizeAt}
-use Rattle.store.specs.Pools.{Pool, poolOf, slotOf}
+use Rattle.store.specs.Limits.{maxSlotSize}
+use Rattle.store.specs.Pools.{Pool}
 use Rattle.store.specs.Refusals.{paper}
 use Rattle.store.specs.View.{Leaves, lensWith, part, storeWith, view}
 use lib.ListN.{length}
@@ -40,7 +42,7 @@ foundAs st (W.At s) = done (s .len ∷ []) (part (s .from) (s .len) st)
 foundAs st (W.Refused e) = refused (paper e)
 
 abbrev pub SpanIn : Setup → List ℕ → ℕ → Whereabouts → Type 0
-SpanIn su st a (W.At s) = (s .from ≡ startOf su a) × (s .from + s .len ≤ length st) × (s .len ≤ 4096)
+SpanIn su st a (W.At s) = (s .from ≡ startOf su a) × (s .from + s .len ≤ length st) × (s .len ≤ maxSlotSize)
 SpanIn su st a (W.Refused e) = Unit {0}
 
 pub record Finds (su : Setup) (st le : List ℕ) (a : ℕ) (r : Whereabouts) : Type 0 where

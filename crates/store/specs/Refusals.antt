@@ -14,6 +14,8 @@ use Rattle.store.specs.declared.Added.{Added}
 use Rattle.store.specs.declared.Added.the-variants as A
 use Rattle.store.specs.declared.Length.{Length}
 use Rattle.store.specs.declared.Length.the-variants as L
+use Rattle.store.specs.declared.Verdict.{Verdict}
+use Rattle.store.specs.declared.Verdict.the-variants as Ve
 use Rattle.store.specs.declared.Started.{Started}
 use Rattle.store.specs.declared.Started.the-variants as St
 use Rattle.store.specs.declared.Presence.{Presence}
@@ -36,6 +38,10 @@ paper (BufferTooSmall found expected) = no 19 (found ∷ expected ∷ [])
 unfoldable pub deletedPaper : Deleted → Paper
 deletedPaper D.Done = no 0 []
 deletedPaper (D.Refused e) = paper e
+
+unfoldable pub verdictPaper : Verdict → Paper
+verdictPaper Ve.Fine = no 0 []
+verdictPaper (Ve.Refused e) = paper e
 
 unfoldable pub startedPaper : Started → Paper
 startedPaper St.Done = no 0 []

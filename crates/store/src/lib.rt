@@ -1,21 +1,32 @@
 // A static store: fixed slots in up to eight subpools, over slices that the caller lends.
 ghost use mathlib.Core.Path.{_≡_};
 ghost use mathlib.Core.Bool.{true};
-ghost use Prim.Native.Nat.{ℕ, _+_, _*_, _-_, _≤_, _<_};
-ghost use lib.ListN.{length, getD, take, drop, set, replicate};
-ghost use mathlib.Core.List.{List, [], _++_};
-ghost use Rattle.rules.specs.Tests.{allBelow, firstFrom};
-ghost use Rattle.store.specs.Layout.{sizeAt, slotsAt, rowsBefore, bytesBefore, poolOk, poolOkAt, setupOk, rowOk, poolRowsOk};
-ghost use Rattle.store.specs.Judge.{judged as fineOr, sized};
-ghost use Rattle.store.specs.Pools.{poolOf, slotOf, find, choose as chosen, over};
-ghost use Rattle.store.specs.View.{view};
-ghost use Rattle.store.specs.Inside.{cellOf, spotOf, roomOf, validated, fits, freeRow, lastTried, roomIn};
-ghost use Rattle.store.specs.Refusals.{deletedPaper, addedPaper, lengthPaper, presencePaper, startedPaper};
+ghost use mathlib.Core.List.{[]};
+ghost use Prim.Native.Nat.{_+_, _≤_};
+ghost use lib.ListN.{length};
+ghost use Rattle.rules.specs.Papers.{says, after, done};
+ghost use Rattle.store.specs.Address.{addressOf, poolOf, slotOf};
+ghost use Rattle.store.specs.Layout.{allRows};
+ghost use Rattle.store.specs.Judge.{setupOk, buffersOk, lensOk, judged as fineOr};
+ghost use Rattle.store.specs.Refusals.{deletedPaper, addedPaper, lengthPaper, presencePaper, startedPaper, verdictPaper};
 ghost use Rattle.store.specs.Calls.{deleteIn, addIn, readIn, packetIn, hasIn, lenIn, judging, freshIn};
-ghost use Rattle.rules.specs.Papers.{says, after};
 ghost use Rattle.store.specs.Promise.{startOf, Writes, Reads, Lends};
 
+mod bytes;
 pub mod judged;
+mod layout;
+mod search;
+mod tests;
+
+pub const MAX_SUBPOOLS: usize = 8;
+
+pub const MAX_SLOT_SIZE: usize = 4096;
+
+pub const MAX_SLOTS: usize = 256;
+
+pub const MAX_STORE_BYTES: usize = 1048576;
+
+pub const STORE_FREE: u16 = 65535;
 
 pub struct Setup {
     pub pools: usize,
@@ -40,33 +51,8 @@ pub enum StoreRefusal {
     BufferTooSmall { found: usize, expected: usize },
 }
 
-// A slot in the lent lists: its row of the length table, and where its bytes lie.
-pub struct Cell {
-    pub pool: usize,
-    pub slot: usize,
-    pub row: usize,
-    pub from: usize,
-    pub size: usize,
-}
-
-pub enum Spot {
-    Refused(StoreRefusal),
-    At(Cell),
-}
-
-// The bytes of a packet in the store.
-pub struct Span {
-    pub from: usize,
-    pub len: usize,
-}
-
-pub enum Whereabouts {
-    At(Span),
-    Refused(StoreRefusal),
-}
-
-pub enum Deleted {
-    Done,
+pub enum Verdict {
+    Fine,
     Refused(StoreRefusal),
 }
 
@@ -85,13 +71,24 @@ pub enum Presence {
     Refused(StoreRefusal),
 }
 
+pub enum Deleted {
+    Done,
+    Refused(StoreRefusal),
+}
+
 pub enum Started {
     Done,
     Refused(StoreRefusal),
 }
 
-pub enum Verdict {
-    Fine,
+// The bytes of a packet in the store.
+pub struct Span {
+    pub from: usize,
+    pub len: usize,
+}
+
+pub enum Whereabouts {
+    At(Span),
     Refused(StoreRefusal),
 }
 
@@ -113,137 +110,53 @@ impl StaticPoolAddr {
     }
 
     pub fn encode(self) -> u64
-        ensures { λ r. ⌜ r ≡ self .«pool_idx» * 65536 + self .«packet_idx» ⌝ }
+        ensures { λ r. ⌜ r ≡ addressOf (self .«pool_idx») (self .«packet_idx») ⌝ }
     {
         (self.pool_idx as u64) * 65536 + (self.packet_idx as u64)
     }
 }
 
-fn wide(x: u16) -> usize
-    ensures { λ r. ⌜ (r ≡ x) × (r < 65536) ⌝ }
-{
-    x as usize
-}
-
-fn size_at(setup: Setup, k: usize) -> usize
-    requires { ⌜ k < 8 ⌝ }
-    ensures { λ r. ⌜ (r ≡ sizeAt setup k) × (r < 65536) ⌝ }
-{
-    wide(setup.sizes[k])
-}
-
-fn slots_at(setup: Setup, k: usize) -> usize
-    requires { ⌜ k < 8 ⌝ }
-    ensures { λ r. ⌜ (r ≡ slotsAt setup k) × (r < 65536) ⌝ }
-{
-    wide(setup.slots[k])
-}
-
-fn rows_before(setup: Setup, k: usize) -> usize
-    requires { ⌜ k ≤ 8 ⌝ }
-    ensures { λ r. ⌜ (r ≡ rowsBefore setup k) × (r ≤ 524280) ⌝ }
-{
-    let mut n: usize = 0;
-    let mut i: usize = 0;
-    while i < k {
-        n += slots_at(setup, i);
-        i += 1;
-    }
-    n
-}
-
-fn bytes_before(setup: Setup, k: usize) -> usize
-    requires { ⌜ k ≤ 8 ⌝ }
-    ensures { λ r. ⌜ (r ≡ bytesBefore setup k) × (r ≤ 34358689800) ⌝ }
-{
-    let mut n: usize = 0;
-    let mut i: usize = 0;
-    while i < k {
-        n += slots_at(setup, i) * size_at(setup, i);
-        i += 1;
-    }
-    n
-}
-
-fn pool_ok(last: usize, size: usize, slots: usize) -> bool
-    ensures { λ r. ⌜ r ≡ poolOk last size slots ⌝ }
-{
-    if size <= last {
-        return false;
-    }
-    if 4096 < size {
-        return false;
-    }
-    if slots < 1 {
-        return false;
-    }
-    slots <= 256
-}
-
-fn pools_ok(setup: Setup) -> bool
-    requires { ⌜ setup .pools ≤ 8 ⌝ }
-    ensures { λ r. ⌜ r ≡ allBelow (poolOkAt setup) (setup .pools) ⌝ }
-{
-    let n = setup.pools;
-    let mut last: usize = 0;
-    let mut k: usize = 0;
-    while k < n {
-        let size = size_at(setup, k);
-        let ok = pool_ok(last, size, slots_at(setup, k));
-        if !ok {
-            return false;
-        }
-        last = size;
-        k += 1;
-    }
-    true
-}
-
-fn setup_ok(setup: Setup) -> bool
+// The test of refusal 1.
+pub fn setup_ok(setup: Setup) -> bool
     ensures { λ r. ⌜ r ≡ setupOk setup ⌝ }
 {
     let n = setup.pools;
     if n < 1 {
         return false;
     }
-    if 8 < n {
+    if MAX_SUBPOOLS < n {
         return false;
     }
-    let ok = pools_ok(setup);
+    let ok = tests::pools_ok(setup);
     if !ok {
         return false;
     }
-    bytes_before(setup, n) <= 1048576
+    layout::bytes_before(setup, n) <= MAX_STORE_BYTES
 }
 
-// Each of the lengths of one subpool is free or within its slot.
-fn lens_ok(lens: &[u16], base: usize, count: usize, size: usize) -> bool
-    requires { ⌜ base + count ≤ length (now lens) ⌝ }
-    ensures { λ r. ⌜ r ≡ allBelow (rowOk (now (lens .entry)) base size) count ⌝ }
+// The test of refusal 2, for a setup that passed that of 1: room and rows are the lengths of the lent lists.
+pub fn buffers_ok(setup: Setup, room: usize, rows: usize) -> bool
+    requires { ⌜ setupOk setup ≡ true ⌝ }
+    ensures { λ r. ⌜ r ≡ buffersOk setup room rows ⌝ }
 {
-    let mut s: usize = 0;
-    while s < count {
-        let n = wide(lens[base + s]);
-        if n != 65535 {
-            if size < n {
-                return false;
-            }
-        }
-        s += 1;
+    let n = setup.pools;
+    if room < layout::bytes_before(setup, n) {
+        return false;
     }
-    true
+    layout::rows_before(setup, n) <= rows
 }
 
-fn rows_ok(setup: Setup, lens: &[u16]) -> bool
-    requires { ⌜ (setup .pools ≤ 8) × (rowsBefore setup (setup .pools) ≤ length (now lens)) ⌝ }
-    ensures { λ r. ⌜ r ≡ allBelow (poolRowsOk setup (now (lens .entry))) (setup .pools) ⌝ }
+// The test of refusal 3, for a setup and a table that passed those of 1 and 2.
+pub fn lens_ok(setup: Setup, lens: &[u16]) -> bool
+    requires { ⌜ (setupOk setup ≡ true) × (allRows setup ≤ length (now lens)) ⌝ }
+    ensures { λ r. ⌜ r ≡ lensOk setup (now (lens .entry)) ⌝ }
 {
     let n = setup.pools;
     let mut base: usize = 0;
     let mut k: usize = 0;
     while k < n {
-        let count = slots_at(setup, k);
-        let ok = lens_ok(lens, base, count, size_at(setup, k));
+        let count = layout::slots_at(setup, k);
+        let ok = tests::pool_lens_ok(lens, base, count, layout::size_at(setup, k));
         if !ok {
             return false;
         }
@@ -253,178 +166,29 @@ fn rows_ok(setup: Setup, lens: &[u16]) -> bool
     true
 }
 
+// Refusals 1 to 3 in their order: every call below starts with them. room is the length of the lent store.
 pub fn judge(setup: Setup, room: usize, lens: &[u16]) -> Verdict
-    ensures { λ r. ⌜ r ≡ fineOr setup room (now (lens .entry)) ⌝ }
+    ensures { λ r. ⌜ verdictPaper r ≡ says (fineOr setup room (now (lens .entry)) (done [] (tt {0}))) ⌝ }
 {
     let fine = setup_ok(setup);
     if !fine {
         return Verdict::Refused(StoreRefusal::BadSetup);
     }
-    let n = setup.pools;
-    if room < bytes_before(setup, n) {
+    let fits = buffers_ok(setup, room, lens.len());
+    if !fits {
         return Verdict::Refused(StoreRefusal::BadBuffers);
     }
-    if lens.len() < rows_before(setup, n) {
-        return Verdict::Refused(StoreRefusal::BadBuffers);
-    }
-    let ok = rows_ok(setup, lens);
-    if !ok {
+    let sound = lens_ok(setup, lens);
+    if !sound {
         return Verdict::Refused(StoreRefusal::StateDamaged);
     }
     Verdict::Fine
 }
 
-// The first subpool whose slots hold len bytes, or the number of subpools.
-fn find_subpool(setup: Setup, len: usize) -> usize
-    requires { ⌜ setup .pools ≤ 8 ⌝ }
-    ensures { λ r. ⌜ r ≡ firstFrom (fits setup len) 0 (setup .pools) ⌝ }
-{
-    let n = setup.pools;
-    let mut k: usize = 0;
-    while k < n {
-        if len <= size_at(setup, k) {
-            return k;
-        }
-        k += 1;
-    }
-    n
-}
-
-// The lowest free row of count rows from base, or count.
-fn find_free(lens: &[u16], base: usize, count: usize) -> usize
-    requires { ⌜ base + count ≤ length (now lens) ⌝ }
-    ensures { λ r. ⌜ r ≡ firstFrom (freeRow (now (lens .entry)) base) 0 count ⌝ }
-{
-    let mut s: usize = 0;
-    while s < count {
-        if lens[base + s] == 65535 {
-            return s;
-        }
-        s += 1;
-    }
-    count
-}
-
-fn cell_at(setup: Setup, k: usize, s: usize) -> Cell
-    requires { ⌜ (k < 8) × (s < 65536) ⌝ }
-    ensures { λ r. ⌜ r ≡ cellOf setup k s ⌝ }
-{
-    let size = size_at(setup, k);
-    let row = rows_before(setup, k) + s;
-    let from = bytes_before(setup, k) + s * size;
-    Cell {
-        pool: k,
-        slot: s,
-        row: row,
-        from: from,
-        size: size,
-    }
-}
-
-// The slot that an address names, where the setup has it.
-fn validate(setup: Setup, a: StaticPoolAddr) -> Spot
-    requires { ⌜ setup .pools ≤ 8 ⌝ }
-    ensures { λ r. ⌜ r ≡ validated setup (a .«pool_idx») (a .«packet_idx») ⌝ }
-{
-    let k = wide(a.pool_idx);
-    let s = wide(a.packet_idx);
-    let n = setup.pools;
-    if n <= k {
-        return Spot::Refused(StoreRefusal::InvalidStoreId(StoreIdError::InvalidSubpool(
-            a.pool_idx,
-        )));
-    }
-    if slots_at(setup, k) <= s {
-        return Spot::Refused(StoreRefusal::InvalidStoreId(StoreIdError::InvalidPacketIdx(
-            a.packet_idx,
-        )));
-    }
-    Spot::At(cell_at(setup, k, s))
-}
-
-// Where the packet of an address lies.
-fn locate(setup: Setup, lens: &[u16], addr: u64) -> Spot
-    requires { ⌜ (setup .pools ≤ 8) × (rowsBefore setup (setup .pools) ≤ length (now lens)) ⌝ }
-    ensures { λ r. ⌜ ((st : List ℕ) → r ≡ spotOf setup addr (find (view setup st (now (lens .entry))) addr)) ⌝ }
-{
-    let a = StaticPoolAddr::decode(addr);
-    let spot = validate(setup, a);
-    match spot {
-        Spot::Refused(e) => Spot::Refused(e),
-        Spot::At(cell) => {
-            let row = cell.row;
-            if lens[row] == 65535 {
-                return Spot::Refused(StoreRefusal::DataDoesNotExist(a.encode()));
-            }
-            Spot::At(cell)
-        }
-    }
-}
-
-fn zero_fill(part: &mut [u8])
-    ensures { λ r. ⌜ now (part .exit) ≡ replicate (length (now (part .entry))) 0 ⌝ }
-{
-    let n = part.len();
-    let mut i: usize = 0;
-    while i < n {
-        part[i] = 0;
-        i += 1;
-    }
-}
-
-// The packet at the front of the slot's bytes; the bytes after it stay.
-fn copy_in(part: &mut [u8], packet: &[u8])
-    requires { ⌜ length (now packet) ≤ length (now part) ⌝ }
-    ensures { λ r. ⌜ now (part .exit) ≡ over (now (packet .entry)) (now (part .entry)) ⌝ }
-{
-    let n = packet.len();
-    let mut i: usize = 0;
-    while i < n {
-        part[i] = packet[i];
-        i += 1;
-    }
-}
-
-// The subpools that `add` tries end here: all that are left where it spills, and else the first.
-fn last_tried(setup: Setup, k: usize) -> usize
-    requires { ⌜ k < setup .pools ⌝ }
-    ensures { λ r. ⌜ r ≡ lastTried setup k ⌝ }
-{
-    if setup.spill { setup.pools } else { k + 1 }
-}
-
-// The first free slot in the subpools from first up to last.
-fn find_room(setup: Setup, lens: &[u16], first: usize, last: usize) -> Spot
-    requires { ⌜ (first < last) × (last ≤ setup .pools) × (setup .pools ≤ 8) × (rowsBefore setup (setup .pools) ≤ length (now lens)) ⌝ }
-    ensures { λ r. ⌜ r ≡ roomIn setup (now (lens .entry)) first last ⌝ }
-{
-    let mut k = first;
-    while k < last {
-        let count = slots_at(setup, k);
-        let s = find_free(lens, rows_before(setup, k), count);
-        if s < count {
-            return Spot::At(cell_at(setup, k, s));
-        }
-        k += 1;
-    }
-    Spot::Refused(StoreRefusal::StoreFull((last - 1) as u16))
-}
-
-// Where `add` puts len bytes.
-fn choose(setup: Setup, lens: &[u16], len: usize) -> Spot
-    requires { ⌜ (setupOk setup ≡ true) × (setup .pools ≤ 8) × (rowsBefore setup (setup .pools) ≤ length (now lens)) ⌝ }
-    ensures { λ r. ⌜ ((st : List ℕ) → r ≡ roomOf setup len (chosen (setup .spill) (view setup st (now (lens .entry))) len)) ⌝ }
-{
-    let n = setup.pools;
-    let k = find_subpool(setup, len);
-    if n <= k {
-        return Spot::Refused(StoreRefusal::DataTooLarge(len));
-    }
-    find_room(setup, lens, k, last_tried(setup, k))
-}
-
 pub fn add(setup: Setup, store: &mut [u8], lens: &mut [u16], packet: &[u8]) -> Added
-    ensures { λ r. ⌜ Writes setup (now (store .entry)) (now (lens .entry)) (judging setup (now (store .entry)) (now (lens .entry)) (λ ps. addIn (setup .spill) ps (now (packet .entry)))) (addedPaper r) (now (store .exit)) (now (lens .exit)) ⌝ }
+    ensures { λ r. ⌜ Writes setup (now (store .entry)) (now (lens .entry))
+        (judging setup (now (store .entry)) (now (lens .entry)) (λ ps. addIn (setup .spill) ps (now (packet .entry))))
+        (addedPaper r) (now (store .exit)) (now (lens .exit)) ⌝ }
 {
     let j = judge(setup, store.len(), lens);
     match j {
@@ -433,44 +197,16 @@ pub fn add(setup: Setup, store: &mut [u8], lens: &mut [u16], packet: &[u8]) -> A
     }
 }
 
-pub fn delete(setup: Setup, store: &mut [u8], lens: &mut [u16], addr: u64) -> Deleted
-    ensures { λ r. ⌜ Writes setup (now (store .entry)) (now (lens .entry)) (judging setup (now (store .entry)) (now (lens .entry)) (λ ps. deleteIn ps addr)) (deletedPaper r) (now (store .exit)) (now (lens .exit)) ⌝ }
-{
-    let j = judge(setup, store.len(), lens);
-    match j {
-        Verdict::Refused(e) => Deleted::Refused(e),
-        Verdict::Fine => judged::delete(setup, store, lens, addr),
-    }
-}
-
 // The packet goes to the front of buf; the rest of buf stays.
 pub fn read(setup: Setup, store: &[u8], lens: &[u16], addr: u64, buf: &mut [u8]) -> Length
-    ensures { λ r. ⌜ Reads (judging setup (now (store .entry)) (now (lens .entry)) (λ ps. readIn ps addr (now (buf .entry)))) (now (buf .entry)) (lengthPaper r) (now (buf .exit)) ⌝ }
+    ensures { λ r. ⌜ Reads
+        (judging setup (now (store .entry)) (now (lens .entry)) (λ ps. readIn ps addr (now (buf .entry))))
+        (now (buf .entry)) (lengthPaper r) (now (buf .exit)) ⌝ }
 {
     let j = judge(setup, store.len(), lens);
     match j {
         Verdict::Refused(e) => Length::Refused(e),
         Verdict::Fine => judged::read(setup, store, lens, addr, buf),
-    }
-}
-
-pub fn has_element_at(setup: Setup, store: &[u8], lens: &[u16], addr: u64) -> Presence
-    ensures { λ r. ⌜ presencePaper r ≡ says (judging setup (now (store .entry)) (now (lens .entry)) (λ ps. hasIn ps addr)) ⌝ }
-{
-    let j = judge(setup, store.len(), lens);
-    match j {
-        Verdict::Refused(e) => Presence::Refused(e),
-        Verdict::Fine => judged::has_element_at(setup, store, lens, addr),
-    }
-}
-
-pub fn len_of_data(setup: Setup, store: &[u8], lens: &[u16], addr: u64) -> Length
-    ensures { λ r. ⌜ lengthPaper r ≡ says (judging setup (now (store .entry)) (now (lens .entry)) (λ ps. lenIn ps addr)) ⌝ }
-{
-    let j = judge(setup, store.len(), lens);
-    match j {
-        Verdict::Refused(e) => Length::Refused(e),
-        Verdict::Fine => judged::len_of_data(setup, store, lens, addr),
     }
 }
 
@@ -496,6 +232,7 @@ fn lent(setup: Setup, store: &[u8], lens: &[u16], addr: u64) -> Span
     }
 }
 
+// The packet's bytes as a writable part of the store.
 pub fn modify_part<'a, 'b>(
     setup: Setup,
     store: &'a mut [u8],
@@ -512,47 +249,52 @@ pub fn modify_part<'a, 'b>(
     &mut store[from..end]
 }
 
-fn judge_sizes(setup: Setup, room: usize, rows: usize) -> Verdict
-    ensures { λ r. ⌜ r ≡ sized setup room rows ⌝ }
+pub fn delete(setup: Setup, store: &mut [u8], lens: &mut [u16], addr: u64) -> Deleted
+    ensures { λ r. ⌜ Writes setup (now (store .entry)) (now (lens .entry))
+        (judging setup (now (store .entry)) (now (lens .entry)) (λ ps. deleteIn ps addr))
+        (deletedPaper r) (now (store .exit)) (now (lens .exit)) ⌝ }
+{
+    let j = judge(setup, store.len(), lens);
+    match j {
+        Verdict::Refused(e) => Deleted::Refused(e),
+        Verdict::Fine => judged::delete(setup, store, lens, addr),
+    }
+}
+
+pub fn has_element_at(setup: Setup, store: &[u8], lens: &[u16], addr: u64) -> Presence
+    ensures { λ r. ⌜ presencePaper r ≡ says (judging setup (now (store .entry)) (now (lens .entry)) (λ ps. hasIn ps addr)) ⌝ }
+{
+    let j = judge(setup, store.len(), lens);
+    match j {
+        Verdict::Refused(e) => Presence::Refused(e),
+        Verdict::Fine => judged::has_element_at(setup, store, lens, addr),
+    }
+}
+
+pub fn len_of_data(setup: Setup, store: &[u8], lens: &[u16], addr: u64) -> Length
+    ensures { λ r. ⌜ lengthPaper r ≡ says (judging setup (now (store .entry)) (now (lens .entry)) (λ ps. lenIn ps addr)) ⌝ }
+{
+    let j = judge(setup, store.len(), lens);
+    match j {
+        Verdict::Refused(e) => Length::Refused(e),
+        Verdict::Fine => judged::len_of_data(setup, store, lens, addr),
+    }
+}
+
+// The store's half of the fresh start.
+pub fn fresh(setup: Setup, store: &mut [u8], lens: &mut [u16]) -> Started
+    ensures { λ r. ⌜ Writes setup (now (store .entry)) (now (lens .entry))
+        (freshIn setup (now (store .entry)) (now (lens .entry)))
+        (startedPaper r) (now (store .exit)) (now (lens .exit)) ⌝ }
 {
     let fine = setup_ok(setup);
     if !fine {
-        return Verdict::Refused(StoreRefusal::BadSetup);
+        return Started::Refused(StoreRefusal::BadSetup);
     }
-    let n = setup.pools;
-    if room < bytes_before(setup, n) {
-        return Verdict::Refused(StoreRefusal::BadBuffers);
+    let fits = buffers_ok(setup, store.len(), lens.len());
+    if !fits {
+        return Started::Refused(StoreRefusal::BadBuffers);
     }
-    if rows < rows_before(setup, n) {
-        return Verdict::Refused(StoreRefusal::BadBuffers);
-    }
-    Verdict::Fine
-}
-
-fn mark_free(part: &mut [u16])
-    ensures { λ r. ⌜ now (part .exit) ≡ replicate (length (now (part .entry))) 65535 ⌝ }
-{
-    let n = part.len();
-    let mut i: usize = 0;
-    while i < n {
-        part[i] = 65535;
-        i += 1;
-    }
-}
-
-pub fn fresh(setup: Setup, store: &mut [u8], lens: &mut [u16]) -> Started
-    ensures { λ r. ⌜ Writes setup (now (store .entry)) (now (lens .entry)) (freshIn setup (now (store .entry)) (now (lens .entry))) (startedPaper r) (now (store .exit)) (now (lens .exit)) ⌝ }
-{
-    let j = judge_sizes(setup, store.len(), lens.len());
-    match j {
-        Verdict::Refused(e) => Started::Refused(e),
-        Verdict::Fine => {
-            let n = setup.pools;
-            let bytes = bytes_before(setup, n);
-            let rows = rows_before(setup, n);
-            zero_fill(&mut store[0..bytes]);
-            mark_free(&mut lens[0..rows]);
-            Started::Done
-        }
-    }
+    judged::fresh(setup, store, lens);
+    Started::Done
 }

@@ -1,5 +1,5 @@
 use Rattle.rules.specs.Tests.{allOf}
-use Rattle.store.specs.Layout.{setupOk}
+use Rattle.store.specs.Judge.{setupOk}
 use borrow.Author.Tests.{le-leb, lt-leb, not-false, not-true}
 use mathlib.Core.Bool.{and-true}
 use borrow.Author.Needs.{needs}
