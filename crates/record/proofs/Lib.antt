@@ -1,0 +1,3 @@
+-- What each change comes to, and what the walks of the thin functions share.
+pub mod Changing
+pub mod Both
