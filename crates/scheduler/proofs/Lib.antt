@@ -1,0 +1,3 @@
+-- The facts by which the scheduler's functions are proved.
+pub mod Facts
+pub mod Promises

@@ -1,0 +1,18 @@
+-- Document 01's number and values for each answer of the schedule's calls: 0 for one that is no refusal.
+use Prim.Native.Nat.{ℕ}
+use mathlib.Core.List.{List, [], _∷_}
+use Rattle.record.specs.Refusals.{paper}
+use Rattle.rules.specs.Papers.{Paper, no}
+use Rattle.store.specs.Refusals.{paper as storePaper}
+use Rattle.scheduler.specs.declared.Counted.{Counted}
+use Rattle.scheduler.specs.declared.Counted.the-variants as Co
+use Rattle.scheduler.specs.declared.Verdict.{Verdict}
+use Rattle.scheduler.specs.declared.Verdict.the-variants as Ve
+
+unfoldable pub verdictPaper : Verdict → Paper
+verdictPaper Ve.Fine = no 0 []
+verdictPaper (Ve.Refused e) = paper e
+
+unfoldable pub countedPaper : Counted → Paper
+countedPaper (Co.Count n) = no 0 (n ∷ [])
+countedPaper (Co.Refused e) = paper e
