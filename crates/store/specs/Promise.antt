@@ -49,8 +49,15 @@ pub record Finds (su : Setup) (st le : List ℕ) (a : ℕ) (r : Whereabouts) : T
   pub same : foundAs st r ≡ packetIn (view su st le) a
   pub inside : SpanIn su st a r
 
--- What the call that lends the packet's bytes promises of the part.
+-- What `modify_part` lends: the packet's bytes, and where they start; nothing, at the store's start, where `modify` refuses.
+abbrev pub lentBytes : Setup → List ℕ → List ℕ → ℕ → List ℕ
+lentBytes su st le a = after (judging su st le (λ ps. packetIn ps a)) [] (λ b. b)
+
+abbrev pub lentFrom : Setup → List ℕ → List ℕ → ℕ → ℕ
+lentFrom su st le a = after (judging su st le (λ ps. packetIn ps a)) 0 (λ b. startOf su a)
+
+-- What is promised of the place before it is lent.
 pub record Lends (su : Setup) (st le : List ℕ) (a : ℕ) (s : Span) : Type 0 where
-  pub bytes : part (s .from) (s .len) st ≡ after (judging su st le (λ ps. packetIn ps a)) [] (λ b. b)
-  pub start : s .from ≡ after (judging su st le (λ ps. packetIn ps a)) 0 (λ b. startOf su a)
+  pub bytes : part (s .from) (s .len) st ≡ lentBytes su st le a
+  pub start : s .from ≡ lentFrom su st le a
   pub inside : s .from + s .len ≤ length st

@@ -4,13 +4,13 @@ ghost use mathlib.Core.Bool.{true};
 ghost use mathlib.Core.List.{[]};
 ghost use Prim.Native.Nat.{_+_, _≤_};
 ghost use lib.ListN.{length};
-ghost use Rattle.rules.specs.Papers.{says, after, done};
+ghost use Rattle.rules.specs.Papers.{says, done};
 ghost use Rattle.store.specs.Address.{addressOf, poolOf, slotOf};
 ghost use Rattle.store.specs.Layout.{allRows};
 ghost use Rattle.store.specs.Judge.{setupOk, buffersOk, lensOk, judged as fineOr};
 ghost use Rattle.store.specs.Refusals.{deletedPaper, addedPaper, lengthPaper, presencePaper, startedPaper, verdictPaper};
 ghost use Rattle.store.specs.Calls.{deleteIn, addIn, readIn, packetIn, hasIn, lenIn, judging, freshIn};
-ghost use Rattle.store.specs.Promise.{startOf, Writes, Reads, Lends};
+ghost use Rattle.store.specs.Promise.{Writes, Reads, Lends, lentBytes, lentFrom};
 
 mod bytes;
 pub mod judged;
@@ -18,6 +18,7 @@ mod layout;
 mod search;
 mod tests;
 
+// Document 01's sizes, and the mark of a free slot in the length table.
 pub const MAX_SUBPOOLS: usize = 8;
 
 pub const MAX_SLOT_SIZE: usize = 4096;
@@ -30,8 +31,8 @@ pub const STORE_FREE: u16 = 65535;
 
 pub struct Setup {
     pub pools: usize,
-    pub sizes: [u16; 8],
-    pub slots: [u16; 8],
+    pub sizes: [u16; MAX_SUBPOOLS],
+    pub slots: [u16; MAX_SUBPOOLS],
     pub spill: bool,
 }
 
@@ -239,9 +240,9 @@ pub fn modify_part<'a, 'b>(
     lens: &'b [u16],
     addr: u64,
 ) -> &'a mut [u8]
-    ensures { λ r. ⌜ (now r ≡ after (judging setup (now (store .entry)) (now (lens .entry)) (λ ps. packetIn ps addr)) [] (λ b. b))
+    ensures { λ r. ⌜ (now r ≡ lentBytes setup (now (store .entry)) (now (lens .entry)) addr)
         × (r .ptr .0 ≡ store .entry .ptr .0)
-        × (r .ptr .1 ≡ after (judging setup (now (store .entry)) (now (lens .entry)) (λ ps. packetIn ps addr)) 0 (λ b. startOf setup addr) + store .entry .ptr .1) ⌝ }
+        × (r .ptr .1 ≡ lentFrom setup (now (store .entry)) (now (lens .entry)) addr + store .entry .ptr .1) ⌝ }
 {
     let s = lent(setup, store, lens, addr);
     let from = s.from;
