@@ -1,6 +1,6 @@
 -- What is known where room was chosen, or refused.
 use Prim.Native.Nat.{_*_, _+_, _<_, _≤_, suc, zero, ℕ}
-use Rattle.rules.specs.Papers.{Paper, no, refused}
+use Rattle.rules.specs.Papers.{Paper, no, refused, says}
 use Rattle.store.proofs.Bounds.{bounds}
 use Rattle.store.proofs.Edit.{leaves-fill}
 use Rattle.store.proofs.Find.{find-held, find-no-pool, find-no-slot}
@@ -163,6 +163,12 @@ module _ (su : Setup) (st le d : List ℕ) where
   pub add-refused : (r : Spot) (e : StoreRefusal) → r ≡ roomOf su (length d) (choose (su .spill) (view su st le) (length d)) → r ≡ Refused e → Does su st le (λ ps. addIn (su .spill) ps d) (addedPaper (Ad.Refused e)) st le
   unfolding addIn addedPaper
   add-refused r e p q = does-refused su st le _ (paper e) (place-refused su (view su st le) d _ e (sym p ∙ q))
+
+  -- what `add` says of a place, where nothing is written
+  pub add-says : (c : Cell) → Room su st le (length d) c → (a : ℕ) → a ≡ addressOf (c .pool) (c .slot)
+      → addedPaper (Ad.At a) ≡ says (addIn (su .spill) (view su st le) d)
+  unfolding addIn addedPaper place says
+  add-says c k a e = rw (k .chosen, e)
 
   pub add-at : Sound su st le → (c : Cell) → Room su st le (length d) c → (a : ℕ) (st′ le′ : List ℕ) → a ≡ addressOf (c .pool) (c .slot) → st′ ≡ put (c .from) (c .size) (over d (part (c .from) (c .size) st)) st → le′ ≡ set le (c .row) (length d)
       → Does su st le (λ ps. addIn (su .spill) ps d) (addedPaper (Ad.At a)) st′ le′

@@ -48,6 +48,26 @@ pub fn add(setup: Setup, store: &mut [u8], lens: &mut [u16], packet: &[u8]) -> A
     }
 }
 
+// What `add` would answer, with nothing written: a caller that refuses for a reason of its own has to give the store's 11 and 12 first.
+pub fn would_add(setup: Setup, store: &[u8], lens: &[u16], packet: &[u8]) -> Added
+    requires { ⌜ Sound setup (now store) (now lens) ⌝ }
+    ensures { λ r. ⌜ addedPaper r
+        ≡ says (addIn (setup .spill) (view setup (now (store .entry)) (now (lens .entry))) (now (packet .entry))) ⌝ }
+{
+    let len = packet.len();
+    let spot = search::choose(setup, lens, len);
+    match spot {
+        Spot::Refused(e) => Added::Refused(e),
+        Spot::At(cell) => {
+            let address = StaticPoolAddr {
+                pool_idx: cell.pool as u16,
+                packet_idx: cell.slot as u16,
+            };
+            Added::At(address.encode())
+        }
+    }
+}
+
 pub fn delete(setup: Setup, store: &mut [u8], lens: &mut [u16], addr: u64) -> Deleted
     requires { ⌜ Sound setup (now store) (now lens) ⌝ }
     ensures { λ r. ⌜ Does setup (now (store .entry)) (now (lens .entry))
