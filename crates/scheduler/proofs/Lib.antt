@@ -1,3 +1,4 @@
 -- The facts by which the scheduler's functions are proved.
 pub mod Facts
+pub mod Gates
 pub mod Promises

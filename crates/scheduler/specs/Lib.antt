@@ -5,5 +5,6 @@ pub mod Inserting
 pub mod Windowing
 pub mod Deleting
 pub mod Answers
+pub mod Inside
 pub mod Promise
 pub mod Steps

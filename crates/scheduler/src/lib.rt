@@ -10,6 +10,8 @@ ghost use Rattle.scheduler.specs.Judge.{judging};
 ghost use Rattle.scheduler.specs.Answers.{countedPaper};
 ghost use Rattle.scheduler.specs.Windowing.{countIn};
 
+mod gate;
+
 // The store's setup, and the number of entries.
 pub struct Setup {
     pub store: store::Setup,
