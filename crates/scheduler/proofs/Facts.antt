@@ -9,11 +9,13 @@ use mathlib.Core.List.{List}
 use mathlib.Core.Path.{_≡_}
 use Rattle.record.specs.declared.Record.{Record}
 use Rattle.rules.proofs.All.{all-each, and-left, and-right}
-use Rattle.store.specs.Judge.{Sound as StoreSound}
+use Rattle.store.proofs.Bounds.{buffers-fit}
+use Rattle.store.specs.Judge.{Sound as StoreSound, setupOk as storeSetupOk}
 use Rattle.table.specs.Entries.{unpack, width}
 use Rattle.table.specs.Order.{mostEntries, ordered, Sound as TableSound}
 use Rattle.time.proofs.Judged.{margin-judged, time-judged}
 use Rattle.time.specs.Time.{InRange, MarginInRange, inRange, marginInRange}
+use Rattle.scheduler.specs.Inside.{Long}
 use Rattle.scheduler.specs.Judge.{Sound, buffersOk, setupOk, stateOk}
 use Rattle.scheduler.specs.declared.Setup.{Setup}
 
@@ -47,3 +49,14 @@ facts {su} {r} {st} {le} {ro} s =
 -- the table's own form
 pub table-sound : {su : Setup} {r : Record} {st le ro : List ℕ} → Facts su r st le ro → TableSound ro (r .count)
 table-sound f = record { room = omega arith; few = omega arith; kept = f .kept }
+
+-- what a good setup says by itself
+pub setup-facts : (su : Setup) → setupOk su ≡ true → (storeSetupOk (su .store) ≡ true) × (1 ≤ su .entries) × (su .entries ≤ mostEntries)
+unfolding setupOk
+setup-facts su e = let a = all-each _ e in (a .0, leb-true _ _ (a .1 .0), leb-true _ _ (a .1 .1 .0))
+
+pub long-enough : (su : Setup) (room lens rows : ℕ) → setupOk su ≡ true → buffersOk su room lens rows ≡ true → Long su lens rows
+unfolding buffersOk
+long-enough su room lens rows p q =
+    let b = all-each _ q in
+    record { setup = p; lens-fit = buffers-fit (su .store) room lens (b .0) .1; rows-fit = leb-true _ _ (b .1 .0) }

@@ -1,4 +1,6 @@
 -- The facts by which the scheduler's functions are proved.
 pub mod Facts
 pub mod Gates
+pub mod Judging
 pub mod Promises
+pub mod Counting

@@ -5,8 +5,9 @@ use lib.ListN.{length}
 use mathlib.Core.List.{List}
 use mathlib.Core.Path.{_≡_}
 use Rattle.record.specs.declared.Record.{Record}
-use Rattle.rules.specs.Papers.{Outcome, Paper, after, done, no, refused, says}
 use Rattle.rules.specs.Tests.{unless}
+use Rattle.rules.specs.Papers.{Outcome, Paper, after, done, judgedBy, no, refused, says}
+
 use Rattle.store.proofs.Bounds.{bounds}
 use Rattle.store.proofs.Laid.{leaves-same, lens-laid, same-lens, same-store, store-laid}
 use Rattle.store.specs.Layout.{allRows}
@@ -21,7 +22,7 @@ use Rattle.scheduler.proofs.Facts.{Facts, facts}
 -- judged: what comes of a call is what the call comes to
 pub judging-fine : {A : Type 0} (su : Setup) (r : Record) (st le ro : List ℕ) (call : State → Outcome A) → Sound su r st le ro
     → judging su r st le ro call ≡ call (stateOf su r st le ro)
-unfolding judging unless
+unfolding judging judgedBy unless
 judging-fine su r st le ro call s = rw (s .setup, s .buffers, s .state)
 
 module _ (su : Setup) (r : Record) (st le ro : List ℕ) (call : State → Outcome State) where

@@ -1,13 +1,17 @@
 -- What the contracts of private functions cite. A reader need not believe this: the public calls' promises do not name it.
-use Prim.Native.Nat.{_<_, ℕ}
-use mathlib.Core.Bool.{false}
-use mathlib.Core.List.{List}
+use Prim.Native.Nat.{_*_, _<_, _≤_, ℕ}
+use mathlib.Core.Bool.{false, true}
+use mathlib.Core.List.{List, []}
 use mathlib.Core.Path.{_≡_}
 use Rattle.record.specs.Refusals.{paper}
 use Rattle.record.specs.declared.Record.{Record}
-use Rattle.rules.specs.Papers.{refused}
+use Rattle.rules.specs.Papers.{done, refused, says}
+use Rattle.store.specs.Layout.{allRows}
+use Rattle.table.specs.Entries.{width}
 use Rattle.time.specs.Time.{inTimeMargin}
 use Rattle.time.specs.declared.UnixTime.{UnixTime}
+use Rattle.scheduler.specs.Answers.{verdictPaper}
+use Rattle.scheduler.specs.Judge.{judging, setupOk}
 use Rattle.scheduler.specs.Inserting.{enter}
 use Rattle.scheduler.specs.State.{State, recordOf}
 use Rattle.scheduler.specs.declared.Setup.{Setup}
@@ -18,3 +22,13 @@ use Rattle.scheduler.specs.declared.Verdict.the-variants.{Fine, Refused}
 abbrev pub Gate : Setup → Record → UnixTime → Verdict → Type 0
 Gate su r t Fine = (inTimeMargin (r .clock) (r .margin) t ≡ false) × (r .count < su .entries)
 Gate su r t (Refused e) = (id a : ℕ) (vs : List ℕ) (s : State) → recordOf s ≡ r → enter su t id a vs s ≡ refused (paper e)
+
+-- what the test of 3 asks: 1 is not given, and the tables are long enough to be looked at
+pub record Long (su : Setup) (lens rows : ℕ) : Type 0 where
+  pub setup : setupOk su ≡ true
+  pub lens-fit : allRows (su .store) ≤ lens
+  pub rows-fit : su .entries * width ≤ rows
+
+-- none of 1 to 3, or which of them every call is given
+abbrev pub Judges : Setup → Record → List ℕ → List ℕ → List ℕ → Verdict → Type 0
+Judges su r st le ro v = verdictPaper v ≡ says (judging {A = Unit {0}} su r st le ro (λ s. done [] tt))

@@ -7,8 +7,8 @@ use mathlib.Core.List.{List, [], _∷_}
 use mathlib.Core.Path.{_≡_}
 use Rattle.record.specs.Record.{timesInRange}
 use Rattle.record.specs.declared.Record.{Record}
-use Rattle.rules.specs.Papers.{Outcome, no, refused}
-use Rattle.rules.specs.Tests.{allOf, unless}
+use Rattle.rules.specs.Papers.{Outcome, judgedBy}
+use Rattle.rules.specs.Tests.{allOf}
 use Rattle.store.specs.Judge.{buffersOk as storeBuffersOk, lensOk, setupOk as storeSetupOk}
 use Rattle.table.specs.Entries.{unpack, width}
 use Rattle.table.specs.Order.{mostEntries, ordered}
@@ -37,10 +37,7 @@ stateOk su r lens rows =
 -- the first of them whose test fails, and else what the call comes to
 unfoldable pub judging : {A : Type 0} → Setup → Record → List ℕ → List ℕ → List ℕ → (State → Outcome A) → Outcome A
 judging su r st le ro call =
-    unless (setupOk su) (refused (no 1 []))
-    (unless (buffersOk su (length st) (length le) (length ro)) (refused (no 2 []))
-    (unless (stateOk su r le ro) (refused (no 3 []))
-    (call (stateOf su r st le ro))))
+    judgedBy (setupOk su) (buffersOk su (length st) (length le) (length ro)) (stateOk su r le ro) (call (stateOf su r st le ro))
 
 -- None of 1 to 3 is given: what a judged call asks of its caller, and gives back.
 pub record Sound (su : Setup) (r : Record) (st le ro : List ℕ) : Type 0 where

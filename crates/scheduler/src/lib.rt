@@ -11,6 +11,7 @@ ghost use Rattle.scheduler.specs.Answers.{countedPaper};
 ghost use Rattle.scheduler.specs.Windowing.{countIn};
 
 mod gate;
+mod judge;
 
 // The store's setup, and the number of entries.
 pub struct Setup {
@@ -36,3 +37,13 @@ pub enum Counted {
     Refused(ScheduleRefusal),
 }
 
+// How many entries there are. It judges everything, as every call but those on the record alone does.
+pub fn count(setup: Setup, rec: Record, store: &[u8], lens: &[u16], rows: &[u64]) -> Counted
+    ensures { λ r. ⌜ countedPaper r ≡ says (judging setup rec (now (store .entry)) (now (lens .entry)) (now (rows .entry)) countIn) ⌝ }
+{
+    let j = judge::judge(setup, rec, store, lens, rows);
+    match j {
+        Verdict::Refused(e) => Counted::Refused(e),
+        Verdict::Fine => Counted::Count(rec.count),
+    }
+}
