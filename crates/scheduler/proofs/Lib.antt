@@ -4,3 +4,4 @@ pub mod Gates
 pub mod Judging
 pub mod Promises
 pub mod Counting
+pub mod Openings

@@ -5,9 +5,11 @@ use mathlib.Core.List.{List, []}
 use mathlib.Core.Path.{_≡_}
 use Rattle.record.specs.Refusals.{paper}
 use Rattle.record.specs.declared.Record.{Record}
-use Rattle.rules.specs.Papers.{done, refused, says}
+use Rattle.rules.specs.Papers.{Outcome, done, refused, says}
 use Rattle.store.specs.Layout.{allRows}
 use Rattle.table.specs.Entries.{width}
+use Rattle.table.specs.Windows.{EndsInRange}
+use Rattle.table.specs.declared.TimeWindow.{TimeWindow}
 use Rattle.time.specs.Time.{inTimeMargin}
 use Rattle.time.specs.declared.UnixTime.{UnixTime}
 use Rattle.scheduler.specs.Answers.{verdictPaper}
@@ -15,6 +17,10 @@ use Rattle.scheduler.specs.Judge.{judging, setupOk}
 use Rattle.scheduler.specs.Inserting.{enter}
 use Rattle.scheduler.specs.State.{State, recordOf}
 use Rattle.scheduler.specs.declared.Setup.{Setup}
+use Rattle.scheduler.specs.Windowing.{windowed}
+use Rattle.scheduler.specs.declared.Window.{Window}
+use Rattle.scheduler.specs.declared.windows.Opened.{Opened}
+use Rattle.scheduler.specs.declared.windows.Opened.the-variants as O
 use Rattle.scheduler.specs.declared.Verdict.{Verdict}
 use Rattle.scheduler.specs.declared.Verdict.the-variants.{Fine, Refused}
 
@@ -32,3 +38,16 @@ pub record Long (su : Setup) (lens rows : ℕ) : Type 0 where
 -- none of 1 to 3, or which of them every call is given
 abbrev pub Judges : Setup → Record → List ℕ → List ℕ → List ℕ → Verdict → Type 0
 Judges su r st le ro v = verdictPaper v ≡ says (judging {A = Unit {0}} su r st le ro (λ s. done [] tt))
+
+-- the window in moments, or which of 4 and 15 every call with it is given
+unfoldable pub openedAs : Opened → Outcome TimeWindow
+openedAs (O.At w) = done [] w
+openedAs (O.Refused e) = refused (paper e)
+
+abbrev pub Ends : Opened → Type 0
+Ends (O.At w) = EndsInRange w
+Ends (O.Refused e) = Unit {0}
+
+pub record Opens (w : Window) (r : Opened) : Type 0 where
+  pub same : openedAs r ≡ windowed w (λ x. done [] x)
+  pub ends : Ends r

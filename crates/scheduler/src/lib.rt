@@ -12,6 +12,7 @@ ghost use Rattle.scheduler.specs.Windowing.{countIn};
 
 mod gate;
 mod judge;
+mod windows;
 
 // The store's setup, and the number of entries.
 pub struct Setup {
