@@ -5,3 +5,5 @@ pub mod Judging
 pub mod Promises
 pub mod Counting
 pub mod Openings
+pub mod Retrieving
+pub mod Entering

@@ -7,7 +7,6 @@ use mathlib.Core.Path.{_≡_}
 use Rattle.record.specs.declared.Record.{Record}
 use Rattle.rules.specs.Tests.{unless}
 use Rattle.rules.specs.Papers.{Outcome, Paper, after, done, judgedBy, no, refused, says}
-
 use Rattle.store.proofs.Bounds.{bounds}
 use Rattle.store.proofs.Laid.{leaves-same, lens-laid, same-lens, same-store, store-laid}
 use Rattle.store.specs.Layout.{allRows}
@@ -17,6 +16,12 @@ use Rattle.scheduler.specs.Judge.{Sound, judging}
 use Rattle.scheduler.specs.Promise.{Does, Writes}
 use Rattle.scheduler.specs.State.{State, recordOf, stateOf}
 use Rattle.scheduler.specs.declared.Setup.{Setup}
+use Rattle.record.specs.Refusals.{paper}
+use Rattle.record.specs.declared.ScheduleRefusal.{ScheduleRefusal}
+use Rattle.scheduler.specs.Inside.{Judges}
+use Rattle.scheduler.specs.declared.Verdict.{Verdict}
+use Rattle.scheduler.specs.declared.Verdict.the-variants as Ve
+use Rattle.scheduler.proofs.Judging.{judging-refused}
 use Rattle.scheduler.proofs.Facts.{Facts, facts}
 
 -- judged: what comes of a call is what the call comes to
@@ -64,3 +69,10 @@ module _ (su : Setup) (r : Record) (st le ro : List ℕ) (call : State → Outco
         lens = lens-by r′ st′ le′ ro′ f (call (stateOf su r st le ro)) (d .lists);
         rows = d .rows;
       })
+
+  pub writes-refused : (v : Verdict) (e : ScheduleRefusal) → Judges su r st le ro v → v ≡ Ve.Refused e
+      → Writes su r st le ro (judging su r st le ro call) (paper e) r st le ro
+  unfolding says after
+  writes-refused v e j q =
+      let h = judging-refused su r st le ro call v e j q in
+      record { answer = rw h; next = rw h; store = rw h; lens = rw h; rows = rw h }

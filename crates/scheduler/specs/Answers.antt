@@ -6,6 +6,8 @@ use Rattle.rules.specs.Papers.{Paper, no}
 use Rattle.store.specs.Refusals.{paper as storePaper}
 use Rattle.scheduler.specs.declared.Counted.{Counted}
 use Rattle.scheduler.specs.declared.Counted.the-variants as Co
+use Rattle.scheduler.specs.declared.Retrieved.{Retrieved}
+use Rattle.scheduler.specs.declared.Retrieved.the-variants as R
 use Rattle.scheduler.specs.declared.Verdict.{Verdict}
 use Rattle.scheduler.specs.declared.Verdict.the-variants as Ve
 
@@ -16,3 +18,7 @@ verdictPaper (Ve.Refused e) = paper e
 unfoldable pub countedPaper : Counted → Paper
 countedPaper (Co.Count n) = no 0 (n ∷ [])
 countedPaper (Co.Refused e) = paper e
+
+unfoldable pub retrievedPaper : Retrieved → Paper
+retrievedPaper (R.Rows x) = no 0 (x .first ∷ x .number ∷ [])
+retrievedPaper (R.Refused e) = paper e

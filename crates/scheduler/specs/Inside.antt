@@ -51,3 +51,6 @@ Ends (O.Refused e) = Unit {0}
 pub record Opens (w : Window) (r : Opened) : Type 0 where
   pub same : openedAs r ≡ windowed w (λ x. done [] x)
   pub ends : Ends r
+
+abbrev pub withCount : ℕ → Record → Record
+withCount n r = record { count = n; clock = r .clock; margin = r .margin; enabled = r .enabled }

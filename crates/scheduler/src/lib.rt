@@ -1,17 +1,22 @@
 // The scheduler (document 01, module 5): entries in release-time order over the store, all in what the caller lends.
+use record::Changed;
+use record::Done;
 use record::Record;
 use record::ScheduleRefusal;
-use store::StoreRefusal;
 use table::Part;
 use time::UnixTime;
 ghost use mathlib.Core.Path.{_≡_};
 ghost use Rattle.rules.specs.Papers.{says};
 ghost use Rattle.scheduler.specs.Judge.{judging};
-ghost use Rattle.scheduler.specs.Answers.{countedPaper};
-ghost use Rattle.scheduler.specs.Windowing.{countIn};
+ghost use Rattle.record.specs.Refusals.{donePaper};
+ghost use Rattle.scheduler.specs.Answers.{countedPaper, retrievedPaper};
+ghost use Rattle.scheduler.specs.Inserting.{insertStoredIn};
+ghost use Rattle.scheduler.specs.Promise.{Writes};
+ghost use Rattle.scheduler.specs.Windowing.{countIn, retrieveIn};
 
 mod gate;
 mod judge;
+pub mod judged;
 mod windows;
 
 // The store's setup, and the number of entries.
@@ -38,6 +43,11 @@ pub enum Counted {
     Refused(ScheduleRefusal),
 }
 
+pub enum Retrieved {
+    Rows(Part),
+    Refused(ScheduleRefusal),
+}
+
 // How many entries there are. It judges everything, as every call but those on the record alone does.
 pub fn count(setup: Setup, rec: Record, store: &[u8], lens: &[u16], rows: &[u64]) -> Counted
     ensures { λ r. ⌜ countedPaper r ≡ says (judging setup rec (now (store .entry)) (now (lens .entry)) (now (rows .entry)) countIn) ⌝ }
@@ -46,5 +56,58 @@ pub fn count(setup: Setup, rec: Record, store: &[u8], lens: &[u16], rows: &[u64]
     match j {
         Verdict::Refused(e) => Counted::Refused(e),
         Verdict::Fine => Counted::Count(rec.count),
+    }
+}
+
+// The rows of a window: the first and how many; row 0 where there are none.
+pub fn retrieve_by_time_filter(
+    setup: Setup,
+    rec: Record,
+    store: &[u8],
+    lens: &[u16],
+    rows: &[u64],
+    w: Window,
+) -> Retrieved
+    ensures { λ r. ⌜ retrievedPaper r
+        ≡ says (judging setup rec (now (store .entry)) (now (lens .entry)) (now (rows .entry)) (retrieveIn w)) ⌝ }
+{
+    let j = judge::judge(setup, rec, store, lens, rows);
+    match j {
+        Verdict::Refused(e) => Retrieved::Refused(e),
+        Verdict::Fine => judged::retrieve_by_time_filter(rows, rec.count, w),
+    }
+}
+
+// An entry for a packet that is in the store already. Its address is not judged.
+pub fn insert_unwrapped_and_stored_tc(
+    setup: Setup,
+    rec: Record,
+    store: &[u8],
+    lens: &[u16],
+    rows: &mut [u64],
+    release: UnixTime,
+    request_id: u64,
+    addr: u64,
+) -> Changed
+    ensures { λ c. ⌜ Writes setup rec (now (store .entry)) (now (lens .entry)) (now (rows .entry))
+        (judging setup rec (now (store .entry)) (now (lens .entry)) (now (rows .entry)) (insertStoredIn setup release «request_id» addr))
+        (donePaper (c .answer)) (c .next) (now (store .entry)) (now (lens .entry)) (now (rows .exit)) ⌝ }
+{
+    let j = judge::judge(setup, rec, store, lens, rows);
+    match j {
+        Verdict::Refused(e) => Changed {
+            next: rec,
+            answer: Done::Refused(e),
+        },
+        Verdict::Fine => judged::insert_unwrapped_and_stored_tc(
+            setup,
+            rec,
+            store,
+            lens,
+            rows,
+            release,
+            request_id,
+            addr,
+        ),
     }
 }

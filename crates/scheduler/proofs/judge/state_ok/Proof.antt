@@ -33,9 +33,11 @@ returns-3 c =
     let o = c .before .in-order in
     let e2 = c .before .before in
     let p = e2 .before .times-in-range in
-    simp
-    (le-leb _ _ (e2 .before .before .if1 .left), sym (p .ensures) ∙ not-false (p .result) (e2 .if2 .left),
-    sym (o .ensures) ∙ not-true (o .result) (c .if3 .taken))
+    simp (
+      le-leb _ _ (e2 .before .before .if1 .left),
+      sym (p .ensures) ∙ not-false (p .result) (e2 .if2 .left),
+      sym (o .ensures) ∙ not-true (o .result) (c .if3 .taken),
+    )
 
 lens-ok-requires : tie.Need-lens-ok-requires
 lens-ok-requires c κs =
@@ -50,9 +52,12 @@ returns-4 c =
     let o = e3 .before .in-order in
     let e2 = e3 .before .before in
     let p = e2 .before .times-in-range in
-    simp
-    (le-leb _ _ (e2 .before .before .if1 .left), sym (p .ensures) ∙ not-false (p .result) (e2 .if2 .left),
-    sym (o .ensures) ∙ not-false (o .result) (e3 .if3 .left), and-true)
+    simp (
+      le-leb _ _ (e2 .before .before .if1 .left),
+      sym (p .ensures) ∙ not-false (p .result) (e2 .if2 .left),
+      sym (o .ensures) ∙ not-false (o .result) (e3 .if3 .left),
+      and-true,
+    )
     (c .lens-ok .ensures)
 
 pub state-ok-spec : {M : Type 1} → statement M
