@@ -76,3 +76,9 @@ module _ (su : Setup) (r : Record) (st le ro : List ℕ) (call : State → Outco
   writes-refused v e j q =
       let h = judging-refused su r st le ro call v e j q in
       record { answer = rw h; next = rw h; store = rw h; lens = rw h; rows = rw h }
+
+-- calls that come to the same here promise the same
+pub does-as : (su : Setup) (r : Record) (st le ro : List ℕ) (f g : State → Outcome State) (p : Paper) (r′ : Record) (st′ le′ ro′ : List ℕ)
+    → f (stateOf su r st le ro) ≡ g (stateOf su r st le ro) → Does su r st le ro f p r′ st′ le′ ro′ → Does su r st le ro g p r′ st′ le′ ro′
+does-as su r st le ro f g p r′ st′ le′ ro′ e d =
+    record { answer = rw e at (d .answer); next = rw e at (d .next); lists = rw e at (d .lists); rows = rw e at (d .rows) }

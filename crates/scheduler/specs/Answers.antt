@@ -6,6 +6,8 @@ use Rattle.rules.specs.Papers.{Paper, no}
 use Rattle.store.specs.Refusals.{paper as storePaper}
 use Rattle.scheduler.specs.declared.Counted.{Counted}
 use Rattle.scheduler.specs.declared.Counted.the-variants as Co
+use Rattle.scheduler.specs.declared.InsertAnswer.{InsertAnswer}
+use Rattle.scheduler.specs.declared.InsertAnswer.the-variants as I
 use Rattle.scheduler.specs.declared.Retrieved.{Retrieved}
 use Rattle.scheduler.specs.declared.Retrieved.the-variants as R
 use Rattle.scheduler.specs.declared.Verdict.{Verdict}
@@ -22,3 +24,7 @@ countedPaper (Co.Refused e) = paper e
 unfoldable pub retrievedPaper : Retrieved → Paper
 retrievedPaper (R.Rows x) = no 0 (x .first ∷ x .number ∷ [])
 retrievedPaper (R.Refused e) = paper e
+
+unfoldable pub insertedPaper : InsertAnswer → Paper
+insertedPaper (I.Inserted i) = no 0 (i .addr ∷ i .«request_id» ∷ [])
+insertedPaper (I.Refused e) = paper e

@@ -6,6 +6,8 @@ use mathlib.Core.Path.{_≡_}
 use Rattle.record.specs.Refusals.{paper}
 use Rattle.record.specs.declared.Record.{Record}
 use Rattle.rules.specs.Papers.{Outcome, done, refused, says}
+use Rattle.record.specs.declared.ScheduleRefusal.{ScheduleRefusal}
+use Rattle.store.specs.Pools.{Pool}
 use Rattle.store.specs.Layout.{allRows}
 use Rattle.table.specs.Entries.{width}
 use Rattle.table.specs.Windows.{EndsInRange}
@@ -54,3 +56,8 @@ pub record Opens (w : Window) (r : Opened) : Type 0 where
 
 abbrev pub withCount : ℕ → Record → Record
 withCount n r = record { count = n; clock = r .clock; margin = r .margin; enabled = r .enabled }
+
+-- the store's refusal, and where it has none the schedule's own
+abbrev pub FirstRefusal : Outcome (List Pool) → ScheduleRefusal → ScheduleRefusal → Type 0
+FirstRefusal (refused p) own r = paper r ≡ p
+FirstRefusal (done vs ps) own r = r ≡ own

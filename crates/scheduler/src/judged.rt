@@ -74,7 +74,7 @@ pub fn insert_unwrapped_and_stored_tc(
     }
 }
 
-fn with_count(rec: Record, n: usize) -> Record
+pub fn with_count(rec: Record, n: usize) -> Record
     ensures { λ r. ⌜ r ≡ withCount n rec ⌝ }
 {
     let clock = rec.clock;

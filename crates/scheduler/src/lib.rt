@@ -4,6 +4,7 @@ use record::Done;
 use record::Record;
 use record::ScheduleRefusal;
 use table::Part;
+use table::TcInfo;
 use time::UnixTime;
 ghost use mathlib.Core.Path.{_≡_};
 ghost use Rattle.rules.specs.Papers.{says};
@@ -15,6 +16,7 @@ ghost use Rattle.scheduler.specs.Promise.{Writes};
 ghost use Rattle.scheduler.specs.Windowing.{countIn, retrieveIn};
 
 mod gate;
+pub mod inserting;
 mod judge;
 pub mod judged;
 mod windows;
@@ -41,6 +43,17 @@ pub enum Verdict {
 pub enum Counted {
     Count(usize),
     Refused(ScheduleRefusal),
+}
+
+// What an insertion by bytes answers: the packet's address and its request ID.
+pub enum InsertAnswer {
+    Inserted(TcInfo),
+    Refused(ScheduleRefusal),
+}
+
+pub struct Inserted {
+    pub next: Record,
+    pub answer: InsertAnswer,
 }
 
 pub enum Retrieved {
