@@ -11,12 +11,14 @@ use Rattle.packet.specs.declared.Reading.the-variants.{Packet, Unreadable}
 use Rattle.record.specs.Refusals.{paper}
 use Rattle.record.specs.declared.Record.{Record}
 use Rattle.record.specs.declared.ScheduleRefusal.{ScheduleRefusal}
-use Rattle.record.specs.declared.ScheduleRefusal.the-variants.{NestedScheduledTc, TcUnreadable}
+use Rattle.record.specs.declared.ScheduleRefusal.the-variants.{BadTime, NestedScheduledTc, TcUnreadable}
 use Rattle.rules.specs.Papers.{Outcome, Paper, no, refused}
+use Rattle.rules.specs.Tests.{unless}
 use Rattle.store.specs.Calls.{addIn}
+use Rattle.time.specs.Time.{inRange}
 use Rattle.store.specs.View.{view}
 use Rattle.time.specs.declared.UnixTime.{UnixTime}
-use Rattle.scheduler.specs.Inserting.{activity, entered, insertTc, nested}
+use Rattle.scheduler.specs.Inserting.{activity, entered, insertTc, insertUnwrappedIn, nested, timed}
 use Rattle.scheduler.specs.Inside.{FirstRefusal, Gate}
 use Rattle.scheduler.specs.Promise.{Does}
 use Rattle.scheduler.specs.State.{State, stateOf, withPools}
@@ -37,6 +39,17 @@ module _ (su : Setup) (r : Record) (st le ro : List ℕ) (t : UnixTime) (tc : Li
   does-readable h p r′ st′ le′ ro′ q d =
       does-as su r st le ro (λ s. activity su t tc s (Packet h)) (insertTc su t tc) p r′ st′ le′ ro′
       (ap (activity su t tc (stateOf su r st le ro)) (sym q)) d
+
+  -- the time is judged first
+  pub unwrapped-bad : inRange t ≡ false → Does su r st le ro (insertUnwrappedIn su t tc) (paper BadTime) r st le ro
+  unfolding insertUnwrappedIn timed unless paper
+  unwrapped-bad e = does-refused su r st le ro (insertUnwrappedIn su t tc) (no 4 []) (rw e)
+
+  pub unwrapped-timed : (p : Paper) (r′ : Record) (st′ le′ ro′ : List ℕ) → inRange t ≡ true
+      → Does su r st le ro (insertTc su t tc) p r′ st′ le′ ro′ → Does su r st le ro (insertUnwrappedIn su t tc) p r′ st′ le′ ro′
+  unfolding insertUnwrappedIn timed unless
+  unwrapped-timed p r′ st′ le′ ro′ e d =
+      does-as su r st le ro (insertTc su t tc) (insertUnwrappedIn su t tc) p r′ st′ le′ ro′ (rw e) d
 
   module _ (h : Header) where
     pub does-nested : nested h ≡ true → Does su r st le ro (λ s. activity su t tc s (Packet h)) (paper NestedScheduledTc) r st le ro

@@ -9,3 +9,4 @@ pub mod Retrieving
 pub mod Entering
 pub mod Adding
 pub mod Activities
+pub mod Wrapping

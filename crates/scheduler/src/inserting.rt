@@ -21,10 +21,31 @@ ghost use Rattle.store.specs.Judge.{Sound as StoreSound};
 ghost use Rattle.store.specs.View.{view};
 ghost use Rattle.time.specs.Time.{InRange, inTimeMargin};
 ghost use Rattle.scheduler.specs.Answers.{insertedPaper};
-ghost use Rattle.scheduler.specs.Inserting.{activity, entered, insertTc, nested as nestedOf};
+ghost use Rattle.scheduler.specs.Inserting.{activity, entered, insertTc, insertUnwrappedIn, nested as nestedOf};
 ghost use Rattle.scheduler.specs.Inside.{FirstRefusal};
 ghost use Rattle.scheduler.specs.Judge.{Sound};
 ghost use Rattle.scheduler.specs.Promise.{Does};
+
+pub fn insert_unwrapped_tc(
+    setup: Setup,
+    rec: Record,
+    store: &mut [u8],
+    lens: &mut [u16],
+    rows: &mut [u64],
+    release: UnixTime,
+    tc: &[u8],
+) -> Inserted
+    requires { ⌜ Sound setup rec (now store) (now lens) (now rows) ⌝ }
+    ensures { λ c. ⌜ Does setup rec (now (store .entry)) (now (lens .entry)) (now (rows .entry))
+        (insertUnwrappedIn setup release (now (tc .entry)))
+        (insertedPaper (c .answer)) (c .next) (now (store .exit)) (now (lens .exit)) (now (rows .exit)) ⌝ }
+{
+    let ok = release.in_range();
+    if !ok {
+        return refuse(rec, ScheduleRefusal::BadTime);
+    }
+    insert_tc(setup, rec, store, lens, rows, release, tc)
+}
 
 // A command of a time in range.
 pub fn insert_tc(
@@ -143,7 +164,7 @@ fn nested(h: Header) -> bool
     false
 }
 
-fn refuse(rec: Record, e: ScheduleRefusal) -> Inserted
+pub fn refuse(rec: Record, e: ScheduleRefusal) -> Inserted
     ensures { λ c. ⌜ (c .next ≡ rec) × (c .answer ≡ InsertAnswer.Refused e) ⌝ }
 {
     Inserted {

@@ -10,8 +10,8 @@ ghost use mathlib.Core.Path.{_≡_};
 ghost use Rattle.rules.specs.Papers.{says};
 ghost use Rattle.scheduler.specs.Judge.{judging};
 ghost use Rattle.record.specs.Refusals.{donePaper};
-ghost use Rattle.scheduler.specs.Answers.{countedPaper, retrievedPaper};
-ghost use Rattle.scheduler.specs.Inserting.{insertStoredIn};
+ghost use Rattle.scheduler.specs.Answers.{countedPaper, insertedPaper, retrievedPaper};
+ghost use Rattle.scheduler.specs.Inserting.{insertStoredIn, insertUnwrappedIn, insertWrappedIn};
 ghost use Rattle.scheduler.specs.Promise.{Writes};
 ghost use Rattle.scheduler.specs.Windowing.{countIn, retrieveIn};
 
@@ -20,6 +20,7 @@ pub mod inserting;
 mod judge;
 pub mod judged;
 mod windows;
+pub mod wrapped;
 
 // The store's setup, and the number of entries.
 pub struct Setup {
@@ -122,5 +123,46 @@ pub fn insert_unwrapped_and_stored_tc(
             request_id,
             addr,
         ),
+    }
+}
+
+// A command with its release time: its packet goes to the store, and its entry to the schedule.
+pub fn insert_unwrapped_tc(
+    setup: Setup,
+    rec: Record,
+    store: &mut [u8],
+    lens: &mut [u16],
+    rows: &mut [u64],
+    release: UnixTime,
+    tc: &[u8],
+) -> Inserted
+    ensures { λ c. ⌜ Writes setup rec (now (store .entry)) (now (lens .entry)) (now (rows .entry))
+        (judging setup rec (now (store .entry)) (now (lens .entry)) (now (rows .entry)) (insertUnwrappedIn setup release (now (tc .entry))))
+        (insertedPaper (c .answer)) (c .next) (now (store .exit)) (now (lens .exit)) (now (rows .exit)) ⌝ }
+{
+    let j = judge::judge(setup, rec, store, lens, rows);
+    match j {
+        Verdict::Refused(e) => inserting::refuse(rec, e),
+        Verdict::Fine => inserting::insert_unwrapped_tc(setup, rec, store, lens, rows, release, tc),
+    }
+}
+
+// A packet of service 11, subservice 4, whose user data is a stamp and the command.
+pub fn insert_wrapped_tc(
+    setup: Setup,
+    rec: Record,
+    store: &mut [u8],
+    lens: &mut [u16],
+    rows: &mut [u64],
+    outer: &[u8],
+) -> Inserted
+    ensures { λ c. ⌜ Writes setup rec (now (store .entry)) (now (lens .entry)) (now (rows .entry))
+        (judging setup rec (now (store .entry)) (now (lens .entry)) (now (rows .entry)) (insertWrappedIn setup (now (outer .entry))))
+        (insertedPaper (c .answer)) (c .next) (now (store .exit)) (now (lens .exit)) (now (rows .exit)) ⌝ }
+{
+    let j = judge::judge(setup, rec, store, lens, rows);
+    match j {
+        Verdict::Refused(e) => inserting::refuse(rec, e),
+        Verdict::Fine => wrapped::insert_wrapped_tc(setup, rec, store, lens, rows, outer),
     }
 }

@@ -1,0 +1,2 @@
+-- What a reading of a stamp says of the bytes.
+pub mod Fits
