@@ -1,0 +1,6 @@
+-- Laws of the table: words, rows, order, judging, windows, matches; and what insertion and removal keep.
+pub mod Words
+pub mod Rows
+pub mod Order
+pub mod Judging
+pub mod Matches

@@ -1,0 +1,121 @@
+-- Rows by their request ID: the searches, row by row, and what they find.
+-- Assumes nothing.
+use Prim.Native.Nat.{_+_, _<_, _≤_, suc, zero, ℕ}
+use Rattle.rules.proofs.All.{and-left, and-right, fails}
+use Rattle.rules.specs.Papers.{no}
+use Rattle.table.proofs.Order.{eq-or-ne, past-end}
+use Rattle.table.proofs.Rows.{drop-row, getD-unpack, length-unpack}
+use Rattle.table.specs.Entries.{Entry, row, time, unpack}
+use Rattle.table.specs.Match.{firstMatch, isMatch, lastMatch, none, victim}
+use Rattle.time.specs.Time.{giga}
+use borrow.Author.Tests.{eq-eqb, eqb-true, ne-eqb}
+use lib.Dec.{eqb}
+use lib.ListN.{drop, getD, length}
+use mathlib.Core.Bool.{Bool, cond, false, true}
+use mathlib.Core.List.{List, [], _∷_}
+use mathlib.Core.Logic.{⊎-elim}
+use mathlib.Core.Path.{_∙_, _≡_, ap, refl, sym}
+use native.Mathlib.Nat.{add-zero, zero-add}
+use native.Mathlib.Omega.{arith}
+
+-- ---- the ID at a time
+
+pub record Matched (id t : ℕ) (e : Entry) : Type 0 where
+  pub same : e .id ≡ id
+  pub then : time e ≡ t
+
+pub match-facts : (id t : ℕ) (e : Entry) → isMatch id t e ≡ true → Matched id t e
+unfolding isMatch
+match-facts id t e h =
+    record { same = eqb-true _ _ (and-left (eqb (e .id) id) _ h); then = eqb-true _ _ (and-right (eqb (e .id) id) _ h) }
+
+pub match-true : (id t : ℕ) (e : Entry) → e .id ≡ id → time e ≡ t → isMatch id t e ≡ true
+unfolding isMatch
+match-true id t e p q = rw (eq-eqb (e .id) id p) (eq-eqb (time e) t q)
+
+pub match-false : (id t : ℕ) (e : Entry) → (e .id ≡ id → time e ≡ t → ⊥) → isMatch id t e ≡ false
+match-false id t e h = fails (isMatch id t e) (λ m. let f = match-facts id t e m in h (f .same) (f .then))
+
+-- word by word, for times in range
+module _ (e x : Entry) (e< : e .nanos < giga) (x< : x .nanos < giga) where
+  pub match-not-id : (x .id ≡ e .id → ⊥) → false ≡ isMatch (e .id) (time e) x
+  match-not-id h = sym (match-false (e .id) (time e) x (λ p q. h p))
+
+  pub match-not-secs : (x .secs ≡ e .secs → ⊥) → false ≡ isMatch (e .id) (time e) x
+  match-not-secs h = sym (match-false (e .id) (time e) x (λ p q. h (omega arith)))
+
+  pub match-nanos : x .id ≡ e .id → x .secs ≡ e .secs → eqb (x .nanos) (e .nanos) ≡ isMatch (e .id) (time e) x
+  match-nanos p s =
+      ⊎-elim (λ (q : x .nanos ≡ e .nanos). eq-eqb _ _ q ∙ sym (match-true (e .id) (time e) x p (omega arith)))
+      (λ (q : x .nanos ≡ e .nanos → ⊥). ne-eqb _ _ q ∙ sym (match-false (e .id) (time e) x (λ y z. q (omega arith))))
+      (eq-or-ne (x .nanos) (e .nanos))
+
+-- ---- the first match
+
+pub first-hit : (id : ℕ) (e : Entry) (es : List Entry) → e .id ≡ id → firstMatch id (e ∷ es) ≡ 0
+unfolding firstMatch
+first-hit id e es h = rw (eq-eqb (e .id) id h)
+
+pub first-miss : (id : ℕ) (e : Entry) (es : List Entry) → (e .id ≡ id → ⊥) → firstMatch id (e ∷ es) ≡ suc (firstMatch id es)
+unfolding firstMatch
+first-miss id e es h = rw (ne-eqb (e .id) id h)
+
+pub first-end : (id n : ℕ) (w : List ℕ) (i : ℕ) → n ≤ i → firstMatch id (drop i (unpack n w)) ≡ 0
+unfolding firstMatch
+first-end id n w i h = rw (past-end n w i h)
+
+pub first-here : (id n : ℕ) (w : List ℕ) (i : ℕ) → i < n → row w i .id ≡ id → firstMatch id (drop i (unpack n w)) ≡ 0
+first-here id n w i h l = rw (drop-row n w i h) (first-hit id (row w i) _ l)
+
+pub first-go : (id n : ℕ) (w : List ℕ) (i : ℕ) → i < n → (row w i .id ≡ id → ⊥)
+    → firstMatch id (drop i (unpack n w)) ≡ suc (firstMatch id (drop (i + 1) (unpack n w)))
+first-go id n w i h l = rw (drop-row n w i h) (first-miss id (row w i) _ l)
+
+-- ---- the last match at a time
+
+pub last-step : (id t k b : ℕ) (e : Entry) (es : List Entry) (m : Bool) → isMatch id t e ≡ m
+    → lastMatch id t k b (e ∷ es) ≡ lastMatch id t (k + 1) (cond m k b) es
+unfolding lastMatch
+last-step id t k b e es m h = ap (λ (x : Bool). lastMatch id t (k + 1) (cond x k b) es) h
+
+pub last-end : (id t k b n : ℕ) (w : List ℕ) (i : ℕ) → n ≤ i → lastMatch id t k b (drop i (unpack n w)) ≡ b
+unfolding lastMatch
+last-end id t k b n w i h = rw (past-end n w i h)
+
+pub last-go : (id t k b n : ℕ) (w : List ℕ) (i : ℕ) (m : Bool) → i < n → m ≡ isMatch id t (row w i)
+    → lastMatch id t k b (drop i (unpack n w)) ≡ lastMatch id t (k + 1) (cond m k b) (drop (i + 1) (unpack n w))
+last-go id t k b n w i m h l = rw (drop-row n w i h) (last-step id t k b (row w i) _ m (sym l))
+
+-- what stands before the first match is none
+pub last-skip : (id t k b : ℕ) (es : List Entry) (i : ℕ) → i ≤ firstMatch id es
+    → lastMatch id t k b es ≡ lastMatch id t (k + i) b (drop i es)
+last-skip id t k b es zero h = ap (λ (j : ℕ). lastMatch id t j b es) (sym (add-zero k))
+last-skip id t k b [] (suc i) h = absurd (unfold firstMatch in omega arith)
+last-skip id t k b (e ∷ es) (suc i) h =
+    let no : e .id ≡ id → ⊥ = λ (m : e .id ≡ id). omega (arith, first-hit id e es m) in
+    let j : k + 1 + i ≡ k + suc i = omega arith in
+    last-step id t k b e es false (match-false id t e (λ p q. no p))
+    ∙ last-skip id t (k + 1) b es i (omega (arith, first-miss id e es no))
+    ∙ ap (λ (x : ℕ). lastMatch id t x b (drop i es)) j
+
+pub victim-none : (id n : ℕ) (w : List ℕ) (i : ℕ) → i ≡ firstMatch id (unpack n w) → i ≡ n → i ≡ victim id (unpack n w)
+unfolding victim
+victim-none id n w i e h =
+    let es : List Entry = unpack n w in
+    let t : ℕ = time (getD es (firstMatch id es) none) in
+    let le : length es ≡ i = length-unpack n w ∙ sym h in
+    sym (last-skip id t 0 (length es) es i (omega arith) ∙ last-end id t (0 + i) (length es) n w i (omega arith) ∙ le)
+
+pub victim-some : (id n : ℕ) (w : List ℕ) (i : ℕ) → i ≡ firstMatch id (unpack n w) → i < n → row w i .id ≡ id
+    → lastMatch (row w i .id) (time (row w i)) (i + 1) i (drop (i + 1) (unpack n w)) ≡ victim id (unpack n w)
+unfolding victim
+victim-some id n w i e h m =
+    let es : List Entry = unpack n w in
+    let t : ℕ = time (row w i) in
+    let q : time (getD es (firstMatch id es) none) ≡ t = rw (← e) (ap time (getD-unpack n w i none h)) in
+    let z : 0 + i ≡ i = zero-add i in
+    rw (m, q)
+    (sym
+    (last-skip id t 0 (length es) es i (omega arith)
+    ∙ ap (λ (x : ℕ). lastMatch id t x (length es) (drop i es)) z
+    ∙ last-go id t i (length es) n w i true h (sym (match-true id t (row w i) m refl))))

@@ -1,0 +1,25 @@
+use borrow.Author.Needs.{needs}
+use Rattle.table.proofs.search.up_to.Statement.{statement}
+use Rattle.table.proofs.search.up_to.Tie as tie
+use Rattle.table.proofs.search.up_to.Reads as reads
+use Rattle.table.proofs.search.up_to.Lts as lts
+use Rattle.table.proofs.search.below_words.Reads as below-words-reads
+
+-- src/search.rt:26:39
+cast-below-words : tie.Need-cast-below-words
+cast-below-words c = search needs
+
+-- src/search.rt:26:38
+add-below-words : tie.Need-add-below-words
+add-below-words c = search needs
+
+-- src/search.rt:26:5
+below-words-requires : tie.Need-below-words-requires
+below-words-requires c κs = search needs
+
+-- src/search.rt:21:1
+returns : tie.Need-returns
+returns c = search needs
+
+pub up-to-spec : {M : Type 1} → statement M
+up-to-spec = tie.close (tie.spec cast-below-words add-below-words below-words-requires returns)
