@@ -4,3 +4,4 @@ pub mod Rows
 pub mod Order
 pub mod Judging
 pub mod Matches
+pub mod Spans

@@ -15,7 +15,7 @@ use mathlib.Core.Bool.{Bool, cond, false, true}
 use mathlib.Core.List.{List, [], _∷_}
 use mathlib.Core.Logic.{⊎-elim}
 use mathlib.Core.Path.{_∙_, _≡_, ap, refl, sym}
-use native.Mathlib.Nat.{add-zero, zero-add}
+use native.Mathlib.Nat.{add-zero, not-suc-le-zero, zero-add}
 use native.Mathlib.Omega.{arith}
 
 -- ---- the ID at a time
@@ -71,6 +71,14 @@ pub first-go : (id n : ℕ) (w : List ℕ) (i : ℕ) → i < n → (row w i .id 
     → firstMatch id (drop i (unpack n w)) ≡ suc (firstMatch id (drop (i + 1) (unpack n w)))
 first-go id n w i h l = rw (drop-row n w i h) (first-miss id (row w i) _ l)
 
+-- what is found has the ID
+pub first-found : (id : ℕ) (es : List Entry) (d : Entry) → firstMatch id es < length es → getD es (firstMatch id es) d .id ≡ id
+first-found id [] d h = absurd (not-suc-le-zero h)
+first-found id (e ∷ es) d h =
+    ⊎-elim (λ (m : e .id ≡ id). rw (first-hit id e es m) m)
+    (λ (m : e .id ≡ id → ⊥). let q = first-miss id e es m in rw q (first-found id es d (omega arith)))
+    (eq-or-ne (e .id) id)
+
 -- ---- the last match at a time
 
 pub last-step : (id t k b : ℕ) (e : Entry) (es : List Entry) (m : Bool) → isMatch id t e ≡ m
@@ -106,13 +114,16 @@ victim-none id n w i e h =
     let le : length es ≡ i = length-unpack n w ∙ sym h in
     sym (last-skip id t 0 (length es) es i (omega arith) ∙ last-end id t (0 + i) (length es) n w i (omega arith) ∙ le)
 
-pub victim-some : (id n : ℕ) (w : List ℕ) (i : ℕ) → i ≡ firstMatch id (unpack n w) → i < n → row w i .id ≡ id
+pub victim-some : (id n : ℕ) (w : List ℕ) (i : ℕ) → i ≡ firstMatch id (unpack n w) → i < n
     → lastMatch (row w i .id) (time (row w i)) (i + 1) i (drop (i + 1) (unpack n w)) ≡ victim id (unpack n w)
 unfolding victim
-victim-some id n w i e h m =
+victim-some id n w i e h =
     let es : List Entry = unpack n w in
+    let le = length-unpack n w in
+    let g : getD es (firstMatch id es) none ≡ row w i = rw (← e) (getD-unpack n w i none h) in
+    let m : row w i .id ≡ id = ap (λ (x : Entry). x .id) (sym g) ∙ first-found id es none (omega arith) in
     let t : ℕ = time (row w i) in
-    let q : time (getD es (firstMatch id es) none) ≡ t = rw (← e) (ap time (getD-unpack n w i none h)) in
+    let q : time (getD es (firstMatch id es) none) ≡ t = ap time g in
     let z : 0 + i ≡ i = zero-add i in
     rw (m, q)
     (sym

@@ -1,3 +1,5 @@
+use Rattle.table.proofs.Order.{insertSorted-at}
+use Rattle.table.specs.Entries.{entryOf, unpack}
 use borrow.Author.Needs.{needs}
 use Rattle.table.proofs.edit.insert.Statement.{statement}
 use Rattle.table.proofs.edit.insert.Tie as tie
@@ -20,7 +22,8 @@ same-length c = search needs
 
 -- src/edit.rt:16:1
 returns : tie.Need-returns
-returns c = search needs
+returns c = let a = c .before .before .before .before .before .before .before .args in
+    cc (insertSorted-at (entryOf (a .release) (a .id) (a .addr)) (unpack (a .count) (a .rows .now)))
 
 pub insert-spec : {M : Type 1} → statement M
 insert-spec = tie.close (tie.spec up-to-requires insert-at-requires same-length returns)

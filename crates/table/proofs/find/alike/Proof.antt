@@ -1,3 +1,6 @@
+use Rattle.table.proofs.Matches.{match-nanos, match-not-id, match-not-secs}
+use Rattle.table.proofs.Order.{ordered-row}
+use Rattle.table.specs.Entries.{row}
 use borrow.Author.Needs.{needs}
 use Rattle.table.proofs.find.alike.Statement.{statement}
 use Rattle.table.proofs.find.alike.Tie as tie
@@ -38,7 +41,12 @@ shared-slice-read-if1-2 c = search needs
 
 -- src/find.rt:68:9
 returns : tie.Need-returns
-returns c = search needs
+returns c = let s = c .before .before .before in
+    let a = s .args in
+    match-not-id (row (a .rows .now) (a .i)) (row (a .rows .now) (a .j))
+    (ordered-row (a .count) (a .rows .now) (a .i) (s .pre .0 .kept) (s .pre .1 .0) .nanos-lt)
+    (ordered-row (a .count) (a .rows .now) (a .j) (s .pre .0 .kept) (s .pre .1 .1) .nanos-lt)
+    (c .if1 .taken)
 
 -- src/find.rt:70:8
 mul-if2 : tie.Need-mul-if2
@@ -58,7 +66,12 @@ shared-slice-read-if2-2 c = search needs
 
 -- src/find.rt:71:9
 returns-2 : tie.Need-returns-2
-returns-2 c = search needs
+returns-2 c = let s = c .before .before .before .before .before .before in
+    let a = s .args in
+    match-not-secs (row (a .rows .now) (a .i)) (row (a .rows .now) (a .j))
+    (ordered-row (a .count) (a .rows .now) (a .i) (s .pre .0 .kept) (s .pre .1 .0) .nanos-lt)
+    (ordered-row (a .count) (a .rows .now) (a .j) (s .pre .0 .kept) (s .pre .1 .1) .nanos-lt)
+    (c .if2 .taken)
 
 -- src/find.rt:73:10
 add-result : tie.Need-add-result
@@ -86,7 +99,12 @@ shared-slice-read-result-2 c = search needs
 
 -- src/find.rt:59:1
 returns-3 : tie.Need-returns-3
-returns-3 c = search needs
+returns-3 c = let s = c .before .before .before .before .before .before .before .before in
+    let a = s .args in
+    match-nanos (row (a .rows .now) (a .i)) (row (a .rows .now) (a .j))
+    (ordered-row (a .count) (a .rows .now) (a .i) (s .pre .0 .kept) (s .pre .1 .0) .nanos-lt)
+    (ordered-row (a .count) (a .rows .now) (a .j) (s .pre .0 .kept) (s .pre .1 .1) .nanos-lt)
+    (c .before .before .before .before .before .if1 .left) (c .before .before .if2 .left)
 
 pub alike-spec : {M : Type 1} → statement M
 alike-spec =

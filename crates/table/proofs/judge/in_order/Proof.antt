@@ -1,3 +1,6 @@
+use Prim.Native.Nat.{_-_, _≤_}
+use Rattle.table.proofs.Judging.{Passed, judge-first, judge-last, judge-next}
+use native.Mathlib.Omega.{arith}
 use borrow.Author.Needs.{needs}
 use Rattle.table.proofs.judge.in_order.Statement.{statement}
 use Rattle.table.proofs.judge.in_order.Tie as tie
@@ -7,14 +10,14 @@ use Rattle.table.proofs.judge.above.Reads as above-reads
 use Rattle.table.proofs.judge.falls.Reads as falls-reads
 
 abbrev Inv-loop : tie.InvT-loop
-Inv-loop rows count faults₀ secs₀ nanos₀ i₀ faults secs nanos i = ?
+Inv-loop rows count faults₀ secs₀ nanos₀ i₀ faults secs nanos i = (i ≤ count) × Passed count rows i faults secs nanos
 
 abbrev μ-loop : tie.MeasureT-loop
-μ-loop rows count faults₀ secs₀ nanos₀ i₀ faults secs nanos i = ?
+μ-loop rows count faults₀ secs₀ nanos₀ i₀ faults secs nanos i = count - i
 
 -- src/judge.rt:18:5
 loop-holds : tie.Need-loop-holds Inv-loop μ-loop
-loop-holds c = search needs
+loop-holds c = (omega arith, judge-first _ _)
 
 -- src/judge.rt:19:17
 mul-b : tie.Need-mul-b Inv-loop μ-loop
@@ -74,11 +77,15 @@ loop-less c = search needs
 
 -- src/judge.rt:18:5
 loop-again : tie.Need-loop-again Inv-loop μ-loop
-loop-again c = search needs
+loop-again c = let at-loop = c .before .before .before .before .before .before in
+    let a = at-loop .before .before .args in
+    let s = at-loop .loop in
+    (omega arith, judge-next (a .count) (a .rows .now) (s .i) (s .faults) (s .secs) (s .nanos) _ _ _ (omega arith) (s .inv .1) (c .before .before .above .ensures) (c .before .above2 .ensures) (c .falls .ensures))
 
 -- src/judge.rt:10:1
 returns : tie.Need-returns Inv-loop μ-loop
-returns c = search needs
+returns c = let s = c .before .loop in
+    judge-last _ _ (s .i) (s .faults) (s .secs) (s .nanos) (omega arith) (s .inv .1)
 
 pub in-order-spec : {M : Type 1} → statement M
 in-order-spec =
