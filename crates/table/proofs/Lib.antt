@@ -1,7 +1,11 @@
--- Laws of the table: words, rows, order, judging, windows, matches; and what insertion and removal keep.
+-- Laws of the table: words, rows, order, judging, windows and matches; and what an insertion and a removal keep.
 pub mod Words
 pub mod Rows
 pub mod Order
 pub mod Judging
 pub mod Matches
 pub mod Spans
+pub mod Relaid
+pub mod Places
+pub mod Stays
+pub mod Victim
