@@ -3,11 +3,11 @@
 use Prim.Native.Nat.{_+_, _<_, _≤_, suc, zero, ℕ}
 use Rattle.rules.proofs.All.{and-left, and-right, fails}
 use Rattle.rules.specs.Papers.{no}
-use Rattle.table.proofs.Order.{eq-or-ne, past-end}
+use Rattle.table.proofs.Order.{eq-or-ne, ordered-row, past-end}
 use Rattle.table.proofs.Rows.{drop-row, getD-unpack, length-unpack}
 use Rattle.table.specs.Entries.{Entry, row, time, unpack}
 use Rattle.table.specs.Match.{firstMatch, isMatch, lastMatch, none, victim}
-use Rattle.time.specs.Time.{giga}
+use Rattle.table.specs.Order.{ordered}
 use borrow.Author.Tests.{eq-eqb, eqb-true, ne-eqb}
 use lib.Dec.{eqb}
 use lib.ListN.{drop, getD, length}
@@ -36,19 +36,26 @@ match-true id t e p q = rw (eq-eqb (e .id) id p) (eq-eqb (time e) t q)
 pub match-false : (id t : ℕ) (e : Entry) → (e .id ≡ id → time e ≡ t → ⊥) → isMatch id t e ≡ false
 match-false id t e h = fails (isMatch id t e) (λ m. let f = match-facts id t e m in h (f .same) (f .then))
 
--- word by word, for times in range
-module _ (e x : Entry) (e< : e .nanos < giga) (x< : x .nanos < giga) where
-  pub match-not-id : (x .id ≡ e .id → ⊥) → false ≡ isMatch (e .id) (time e) x
-  match-not-id h = sym (match-false (e .id) (time e) x (λ p q. h p))
+-- two rows, word by word
+module _ (n : ℕ) (w : List ℕ) (o : ordered (unpack n w) ≡ true) (i j : ℕ) (i< : i < n) (j< : j < n) where
+  pub rows-id : (row w j .id ≡ row w i .id → ⊥) → false ≡ isMatch (row w i .id) (time (row w i)) (row w j)
+  rows-id h = sym (match-false (row w i .id) (time (row w i)) (row w j) (λ p q. h p))
 
-  pub match-not-secs : (x .secs ≡ e .secs → ⊥) → false ≡ isMatch (e .id) (time e) x
-  match-not-secs h = sym (match-false (e .id) (time e) x (λ p q. h (omega arith)))
+  pub rows-secs : (row w j .secs ≡ row w i .secs → ⊥) → false ≡ isMatch (row w i .id) (time (row w i)) (row w j)
+  rows-secs h =
+      let a = ordered-row n w i o i< .nanos-lt in
+      let b = ordered-row n w j o j< .nanos-lt in
+      sym (match-false (row w i .id) (time (row w i)) (row w j) (λ p q. h (omega arith)))
 
-  pub match-nanos : x .id ≡ e .id → x .secs ≡ e .secs → eqb (x .nanos) (e .nanos) ≡ isMatch (e .id) (time e) x
-  match-nanos p s =
-      ⊎-elim (λ (q : x .nanos ≡ e .nanos). eq-eqb _ _ q ∙ sym (match-true (e .id) (time e) x p (omega arith)))
-      (λ (q : x .nanos ≡ e .nanos → ⊥). ne-eqb _ _ q ∙ sym (match-false (e .id) (time e) x (λ y z. q (omega arith))))
-      (eq-or-ne (x .nanos) (e .nanos))
+  pub rows-nanos : row w j .id ≡ row w i .id → row w j .secs ≡ row w i .secs
+      → eqb (row w j .nanos) (row w i .nanos) ≡ isMatch (row w i .id) (time (row w i)) (row w j)
+  rows-nanos p s =
+      ⊎-elim
+      (λ (q : row w j .nanos ≡ row w i .nanos).
+      eq-eqb _ _ q ∙ sym (match-true (row w i .id) (time (row w i)) (row w j) p (omega arith)))
+      (λ (q : row w j .nanos ≡ row w i .nanos → ⊥).
+      ne-eqb _ _ q ∙ sym (match-false (row w i .id) (time (row w i)) (row w j) (λ y z. q (omega arith))))
+      (eq-or-ne (row w j .nanos) (row w i .nanos))
 
 -- ---- the first match
 

@@ -1,3 +1,5 @@
+-- `table::shift::move_down` meets its contract. The loop's invariant: as many words are moved as were passed.
+-- Assumes nothing.
 use Prim.Native.Nat.{_-_, _≤_}
 use Rattle.table.proofs.Words.{down-start, down-step}
 use Rattle.table.specs.Shift.{moved}
