@@ -6,7 +6,7 @@ use Rattle.rules.specs.Papers.{no}
 use Rattle.table.proofs.Order.{eq-or-ne, ordered-row, past-end}
 use Rattle.table.proofs.Rows.{drop-row, getD-unpack, length-unpack}
 use Rattle.table.specs.Entries.{Entry, row, time, unpack}
-use Rattle.table.specs.Match.{firstMatch, isMatch, lastMatch, none, victim}
+use Rattle.table.specs.Match.{firstMatch, isMatch, lastLike, lastMatch, like, none, victim}
 use Rattle.table.specs.Order.{ordered}
 use borrow.Author.Tests.{eq-eqb, eqb-true, ne-eqb}
 use lib.Dec.{eqb}
@@ -38,17 +38,17 @@ match-false id t e h = fails (isMatch id t e) (λ m. let f = match-facts id t e 
 
 -- two rows, word by word
 module _ (n : ℕ) (w : List ℕ) (o : ordered (unpack n w) ≡ true) (i j : ℕ) (i< : i < n) (j< : j < n) where
-  pub rows-id : (row w j .id ≡ row w i .id → ⊥) → false ≡ isMatch (row w i .id) (time (row w i)) (row w j)
+  pub rows-id : (row w j .id ≡ row w i .id → ⊥) → false ≡ like (row w i) (row w j)
   rows-id h = sym (match-false (row w i .id) (time (row w i)) (row w j) (λ p q. h p))
 
-  pub rows-secs : (row w j .secs ≡ row w i .secs → ⊥) → false ≡ isMatch (row w i .id) (time (row w i)) (row w j)
+  pub rows-secs : (row w j .secs ≡ row w i .secs → ⊥) → false ≡ like (row w i) (row w j)
   rows-secs h =
       let a = ordered-row n w i o i< .nanos-lt in
       let b = ordered-row n w j o j< .nanos-lt in
       sym (match-false (row w i .id) (time (row w i)) (row w j) (λ p q. h (omega arith)))
 
   pub rows-nanos : row w j .id ≡ row w i .id → row w j .secs ≡ row w i .secs
-      → eqb (row w j .nanos) (row w i .nanos) ≡ isMatch (row w i .id) (time (row w i)) (row w j)
+      → eqb (row w j .nanos) (row w i .nanos) ≡ like (row w i) (row w j)
   rows-nanos p s =
       ⊎-elim
       (λ (q : row w j .nanos ≡ row w i .nanos).
@@ -122,7 +122,7 @@ victim-none id n w i e h =
     sym (last-skip id t 0 (length es) es i (omega arith) ∙ last-end id t (0 + i) (length es) n w i (omega arith) ∙ le)
 
 pub victim-some : (id n : ℕ) (w : List ℕ) (i : ℕ) → i ≡ firstMatch id (unpack n w) → i < n
-    → lastMatch (row w i .id) (time (row w i)) (i + 1) i (drop (i + 1) (unpack n w)) ≡ victim id (unpack n w)
+    → lastLike (row w i) (i + 1) i (drop (i + 1) (unpack n w)) ≡ victim id (unpack n w)
 unfolding victim
 victim-some id n w i e h =
     let es : List Entry = unpack n w in

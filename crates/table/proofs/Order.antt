@@ -10,7 +10,7 @@ use Rattle.time.specs.Time.{far, giga}
 use borrow.Author.Tests.{eqb-false, eqb-true, le-leb, le-ltb, leb-false, leb-true, lt-leb, lt-ltb, ltb-true}
 use lib.Dec.{eqb, leb}
 use lib.ListN.{drop, drop-of-length-le, getD, length}
-use mathlib.Core.Bool.{Bool, false, true}
+use mathlib.Core.Bool.{Bool, cond, false, true}
 use mathlib.Core.List.{List, [], _∷_}
 use mathlib.Core.Logic.{_⊎_, inl, inr, ⊎-elim}
 use mathlib.Core.Path.{_∙_, _≡_, ap, refl}
@@ -158,11 +158,11 @@ below-go t n w i h l = rw (drop-row n w i h) (below-head t (row w i) _ l)
 
 pub insert-later : (e x : Entry) (es : List Entry) → time x ≤ time e → insertSorted e (x ∷ es) ≡ x ∷ insertSorted e es
 unfolding insertSorted
-insert-later e x es h = rw (le-leb (time x) (time e) h)
+insert-later e x es h = ap (λ (b : Bool). cond b (x ∷ insertSorted e es) (e ∷ x ∷ es)) (le-leb (time x) (time e) h)
 
 pub insert-here : (e x : Entry) (es : List Entry) → time e < time x → insertSorted e (x ∷ es) ≡ e ∷ x ∷ es
 unfolding insertSorted
-insert-here e x es h = rw (lt-leb (time x) (time e) h)
+insert-here e x es h = ap (λ (b : Bool). cond b (x ∷ insertSorted e es) (e ∷ x ∷ es)) (lt-leb (time x) (time e) h)
 
 -- after every entry that is not later: at the index that `below` gives
 pub insertSorted-at : (e : Entry) (es : List Entry) → insertSorted e es ≡ insertAt (below (time e + 1) es) e es

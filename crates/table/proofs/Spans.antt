@@ -184,7 +184,7 @@ within-is All e r =
     let s = r .secs-le in
     let n = r .nanos-lt in
     sym (rw (le-leb 0 (time e) (omega arith)) (lt-ltb (time e) top (omega arith)))
-within-is (FromTo f t) e r = rw (leb-ltb (time e) (instantOf t))
+within-is (FromTo f t) e r = ap (λ (b : Bool). leb (instantOf f) (time e) && b) (leb-ltb (time e) (instantOf t))
 within-is (From f) e r =
     let s = r .secs-le in
     let n = r .nanos-lt in
@@ -241,7 +241,8 @@ module _ (es : List Entry) (o : ordered es ≡ true) where
         ⊎-elim
         (λ (z : length (inWindow w es) ≡ 0).
         let y : endOf w es - startOf w es ≡ 0 = sym window-number ∙ z in
-        rw (eq-eqb (length (inWindow w es)) 0 z, z) (window-left ∙ ap (λ (m : ℕ). without (startOf w es) m es) y ∙ without-none _ es ∙ sym (without-none 0 es)))
+        rw (eq-eqb (length (inWindow w es)) 0 z, z)
+        (window-left ∙ ap (λ (m : ℕ). without (startOf w es) m es) y ∙ without-none _ es ∙ sym (without-none 0 es)))
         (λ (z : length (inWindow w es) ≡ 0 → ⊥).
         rw (ne-eqb (length (inWindow w es)) 0 z) (window-left ∙ ap (λ (m : ℕ). without (startOf w es) m es) (sym window-number)))
         (eq-or-ne (length (inWindow w es)) 0)

@@ -20,7 +20,8 @@ slice-write-rows-4 c = simp length-set (omega arith)
 returns : tie.Need-returns
 returns c =
     let a = c .before .before .before .before .before .before .args in
-    rw (c .before .before .before .move-up .ensures) (inserted (a .rows .now) (a .count) (a .at) (entryOf (a .release) (a .id) (a .addr)) (omega arith) (omega arith))
+    rw (c .before .before .before .move-up .ensures)
+    (inserted (a .rows .now) (a .count) (a .at) (entryOf (a .release) (a .id) (a .addr)) (omega arith) (omega arith))
 
 pub insert-at-spec : {M : Type 1} → statement M
 insert-at-spec =

@@ -3,7 +3,7 @@
 use Prim.Native.Nat.{_+_, _-_, _<_, _≤_, ℕ}
 use Rattle.table.proofs.Matches.{last-end, last-go}
 use Rattle.table.specs.Entries.{Entry, row, time, unpack}
-use Rattle.table.specs.Match.{lastMatch}
+use Rattle.table.specs.Match.{lastLike}
 use lib.ListN.{drop}
 use mathlib.Core.Bool.{cond}
 use mathlib.Core.Logic.{⊎-elim}
@@ -14,7 +14,9 @@ use Rattle.table.proofs.find.last_match.Statement.{statement}
 use Rattle.table.proofs.find.last_match.Tie as tie
 
 abbrev Inv-loop : tie.InvT-loop
-Inv-loop rows count i best₀ j₀ best j = (j ≤ count) × (best < count) × (lastMatch (row rows i .id) (time (row rows i)) (i + 1) i (drop (i + 1) (unpack count rows)) ≡ lastMatch (row rows i .id) (time (row rows i)) j best (drop j (unpack count rows)))
+Inv-loop rows count i best₀ j₀ best j =
+    (j ≤ count) × (best < count)
+    × (lastLike (row rows i) (i + 1) i (drop (i + 1) (unpack count rows)) ≡ lastLike (row rows i) j best (drop j (unpack count rows)))
 
 abbrev μ-loop : tie.MeasureT-loop
 μ-loop rows count i best₀ j₀ best j = count - j
@@ -32,7 +34,7 @@ loop-again c =
       ⊎-elim (λ x. omega arith) (λ x. omega arith) (c .if1 .came),
       at-loop .loop .inv .2
           ∙ last-go (e .id) (time e) j (at-loop .loop .best) (a .count) w j (c .before .alike .result) (omega arith) (c .before .alike .ensures)
-          ∙ ap (λ (x : ℕ). lastMatch (e .id) (time e) (j + 1) x (drop (j + 1) (unpack (a .count) w))) b,
+          ∙ ap (λ (x : ℕ). lastLike e (j + 1) x (drop (j + 1) (unpack (a .count) w))) b,
     )
 
 returns : tie.Need-returns Inv-loop μ-loop
@@ -40,7 +42,8 @@ returns c =
     let at-loop = c .before in
     let a = at-loop .before .before .args in
     let e : Entry = row (a .rows .now) (a .i) in
-    (omega arith, sym (at-loop .loop .inv .2 ∙ last-end (e .id) (time e) (at-loop .loop .j) (at-loop .loop .best) (a .count) (a .rows .now) (at-loop .loop .j) (omega arith)))
+    let s = at-loop .loop in
+    (omega arith, sym (s .inv .2 ∙ last-end (e .id) (time e) (s .j) (s .best) (a .count) (a .rows .now) (s .j) (omega arith)))
 
 pub last-match-spec : {M : Type 1} → statement M
 last-match-spec =

@@ -20,8 +20,11 @@ loop-again : tie.Need-loop-again Inv-loop μ-loop
 loop-again c =
     let at-loop = c .before .before .before .before .before .before in
     let a = at-loop .before .before .args in
-    let s = at-loop .loop in
-    (omega arith, judge-next (a .count) (a .rows .now) (s .i) (s .faults) (s .secs) (s .nanos) _ _ _ (omega arith) (s .inv .1) (c .before .before .above .ensures) (c .before .above2 .ensures) (c .falls .ensures))
+    let s = at-loop .loop in (
+      omega arith,
+      judge-next (a .count) (a .rows .now) (s .i) (s .faults) (s .secs) (s .nanos) _ _ _ (omega arith) (s .inv .1)
+          (c .before .before .above .ensures) (c .before .above2 .ensures) (c .falls .ensures),
+    )
 
 returns : tie.Need-returns Inv-loop μ-loop
 returns c =

@@ -14,7 +14,9 @@ use Rattle.table.proofs.search.below_words.Statement.{statement}
 use Rattle.table.proofs.search.below_words.Tie as tie
 
 abbrev Inv-loop : tie.InvT-loop
-Inv-loop rows count secs nanos i₀ i = (i ≤ count) × (below (secs * giga + nanos) (unpack count rows) ≡ i + below (secs * giga + nanos) (drop i (unpack count rows)))
+Inv-loop rows count secs nanos i₀ i =
+    (i ≤ count)
+    × (below (secs * giga + nanos) (unpack count rows) ≡ i + below (secs * giga + nanos) (drop i (unpack count rows)))
 
 abbrev μ-loop : tie.MeasureT-loop
 μ-loop rows count secs nanos i₀ i = count - i
