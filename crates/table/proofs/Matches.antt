@@ -121,10 +121,10 @@ victim-none id n w i e h =
     let le : length es ≡ i = length-unpack n w ∙ sym h in
     sym (last-skip id t 0 (length es) es i (omega arith) ∙ last-end id t (0 + i) (length es) n w i (omega arith) ∙ le)
 
-pub victim-some : (id n : ℕ) (w : List ℕ) (i : ℕ) → i ≡ firstMatch id (unpack n w) → i < n
-    → lastLike (row w i) (i + 1) i (drop (i + 1) (unpack n w)) ≡ victim id (unpack n w)
+pub victim-some : (id n : ℕ) (w : List ℕ) (i r : ℕ) → i ≡ firstMatch id (unpack n w) → i < n
+    → r ≡ lastLike (row w i) (i + 1) i (drop (i + 1) (unpack n w)) → r ≡ victim id (unpack n w)
 unfolding victim
-victim-some id n w i e h =
+victim-some id n w i r e h f =
     let es : List Entry = unpack n w in
     let le = length-unpack n w in
     let g : getD es (firstMatch id es) none ≡ row w i = rw (← e) (getD-unpack n w i none h) in
@@ -132,8 +132,10 @@ victim-some id n w i e h =
     let t : ℕ = time (row w i) in
     let q : time (getD es (firstMatch id es) none) ≡ t = ap time g in
     let z : 0 + i ≡ i = zero-add i in
-    rw (m, q)
+    let s : lastLike (row w i) (i + 1) i (drop (i + 1) es) ≡ victim id es
+    = rw (m, q)
     (sym
     (last-skip id t 0 (length es) es i (omega arith)
     ∙ ap (λ (x : ℕ). lastMatch id t x (length es) (drop i es)) z
-    ∙ last-go id t i (length es) n w i true h (sym (match-true id t (row w i) m refl))))
+    ∙ last-go id t i (length es) n w i true h (sym (match-true id t (row w i) m refl)))) in
+    f ∙ s

@@ -6,7 +6,7 @@ use Rattle.table.proofs.Order.{InRange, below-head, below-le, below-non
 use Rattle.table.specs.Edits.{without}
 use Rattle.table.specs.Entries.{Entry, time}
 use Rattle.table.specs.Order.{below, ordered, orderedFrom}
-use Rattle.table.specs.Windows.{EndsInRange, endOf, filter, firstRow, inWindow, outside, startOf, within}
+use Rattle.table.specs.Windows.{EndsInRange, Retrieves, endOf, filter, firstRow, inWindow, outside, startOf, within}
 use Rattle.time.specs.Time.{MomentInRange, far, giga, instantOf}
 use borrow.Author.Tests.{eq-eqb, le-leb, le-ltb, lt-leb, lt-ltb, ltb-true, ne-eqb}
 use lib.Dec.{leb, ltb}
@@ -234,7 +234,7 @@ module _ (es : List Entry) (o : ordered es ≡ true) where
         (filter-same (λ e. not (within w e)) (out (low w) (high w)) 0 es (λ e r. ap not (within-is w e r) ∙ sym (out-of (low w) (high w) e _ refl)) o
         ∙ span-left (low w) (high w) 0 es o)
 
-    -- the two numbers that retrieval answers say which rows those are
+    -- in the two numbers that retrieval answers: what the range's removal leaves, and what it takes
     pub window-rows : outside w es ≡ without (firstRow w es) (length (inWindow w es)) es
     unfolding firstRow
     window-rows =
@@ -247,20 +247,33 @@ module _ (es : List Entry) (o : ordered es ≡ true) where
         rw (ne-eqb (length (inWindow w es)) 0 z) (window-left ∙ ap (λ (m : ℕ). without (startOf w es) m es) (sym window-number)))
         (eq-or-ne (length (inWindow w es)) 0)
 
-    -- the forms that the code's two answers ask for
-    pub window-none : (a b : ℕ) → a ≡ startOf w es → b ≡ endOf w es → b ≤ a
-        → (_≡_ {A = ℕ} 0 (firstRow w es)) × (_≡_ {A = ℕ} 0 (length (inWindow w es)))
+    pub window-covered : inWindow w es ≡ take (length (inWindow w es)) (drop (firstRow w es) es)
     unfolding firstRow
-    window-none a b ea eb h =
-        let z : length (inWindow w es) ≡ 0 = omega (arith, window-number) in
-        (rw (eq-eqb (length (inWindow w es)) 0 z), sym z)
+    window-covered =
+        ⊎-elim
+        (λ (z : length (inWindow w es) ≡ 0).
+        let y : endOf w es - startOf w es ≡ 0 = sym window-number ∙ z in
+        rw z (window-part ∙ ap (λ (m : ℕ). take m (drop (startOf w es) es)) y))
+        (λ (z : length (inWindow w es) ≡ 0 → ⊥).
+        rw (ne-eqb (length (inWindow w es)) 0 z)
+        (window-part ∙ ap (λ (m : ℕ). take m (drop (startOf w es) es)) (sym window-number)))
+        (eq-or-ne (length (inWindow w es)) 0)
 
-    pub window-some : (a b : ℕ) → a ≡ startOf w es → b ≡ endOf w es → a < b → (a ≡ firstRow w es) × (b - a ≡ length (inWindow w es))
+    -- the forms that the code's two answers ask for
+    pub retrieves-none : (a b : ℕ) → a ≡ startOf w es → b ≡ endOf w es → b ≤ a → Retrieves w es 0 0
     unfolding firstRow
-    window-some a b ea eb h =
+    retrieves-none a b ea eb h =
+        let z : length (inWindow w es) ≡ 0 = omega (arith, window-number) in
+        record { row = rw (eq-eqb (length (inWindow w es)) 0 z); rows = sym z; bound = omega arith }
+
+    pub retrieves-some : (a b : ℕ) → a ≡ startOf w es → b ≡ endOf w es → a < b → Retrieves w es a (b - a)
+    unfolding firstRow
+    retrieves-some a b ea eb h =
         let l = window-number in
-        let z : length (inWindow w es) ≡ 0 → ⊥ = λ (e : length (inWindow w es) ≡ 0). omega arith in
-        (rw (ne-eqb (length (inWindow w es)) 0 z) ea, omega arith)
+        let k = below-le (high w) es in
+        let e = end-is w in
+        let z : length (inWindow w es) ≡ 0 → ⊥ = λ (q : length (inWindow w es) ≡ 0). omega arith in
+        record { row = rw (ne-eqb (length (inWindow w es)) 0 z) ea; rows = omega arith; bound = omega arith }
 
 -- ---- by cases, for an argument of which the case is known
 

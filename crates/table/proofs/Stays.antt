@@ -6,9 +6,10 @@ use Rattle.table.proofs.Rows.{length-relaid, length-unpack, unpack-rela
 use Rattle.table.specs.Edits.{afterInsert, afterRemove, insertAt, insertSorted, without}
 use Rattle.table.specs.Entries.{Entry, time, unpack}
 use Rattle.table.specs.Order.{Sound, Spare, ordered}
-use lib.ListN.{length, length-append, length-drop, length-take}
+use lib.ListN.{drop, length, length-append, length-drop, length-take}
 use mathlib.Core.List.{List}
 use mathlib.Core.Path.{_∙_, _≡_, ap}
+use native.Mathlib.Nat.{zero-add}
 use native.Mathlib.Omega.{arith}
 
 pub length-insertSorted : (e : Entry) (es : List Entry) → length (insertSorted e es) ≡ length es + 1
@@ -19,6 +20,11 @@ length-insertSorted e es =
 pub length-without : (i m : ℕ) (es : List Entry) → i + m ≤ length es → length (without i m es) ≡ length es - m
 unfolding without
 length-without i m es h = simp (length-append, length-take, length-drop) (omega arith)
+
+-- the first m removed, as a tick does
+pub without-first : (m : ℕ) (es : List Entry) → without 0 m es ≡ drop m es
+unfolding without
+without-first m es = rw (zero-add m)
 
 module _ (w : List ℕ) (n : ℕ) where
   inserts : (e : Entry) → length (insertSorted e (unpack n w)) ≡ n + 1

@@ -1,7 +1,6 @@
 -- `table::find::victim` meets its contract.
 -- Assumes nothing.
 use Rattle.table.proofs.Matches.{victim-none, victim-some}
-use mathlib.Core.Path.{_∙_}
 use native.Mathlib.Omega.{arith}
 use borrow.Author.Needs.{needs}
 use Rattle.table.proofs.find.victim.Statement.{statement}
@@ -15,7 +14,7 @@ returns c =
 returns-2 : tie.Need-returns-2
 returns-2 c =
     let a = c .before .before .before .before .args in
-    (omega arith, c .last-match .ensures .1 ∙ victim-some (a .id) (a .count) (a .rows .now) _ (c .before .before .first-match .ensures .1) (omega arith))
+    (omega arith, victim-some (a .id) (a .count) (a .rows .now) _ _ (c .before .before .first-match .ensures .1) (omega arith) (c .last-match .ensures .1))
 
 pub victim-spec : {M : Type 1} → statement M
 victim-spec = tie.close (tie.spec (λ c κs. search needs) returns (λ c κs. search needs) returns-2)
