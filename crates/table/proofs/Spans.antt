@@ -3,8 +3,9 @@
 use Prim.Native.Nat.{_*_, _+_, _-_, _<_, _≤_, suc, ℕ}
 use Rattle.rules.proofs.All.{and-right, and-true, fails}
 use Rattle.table.proofs.Order.{InRange, below-head, below-le, below-none, below-not, eq-or-ne, le-or-lt, ordered-cons}
+use Rattle.table.proofs.Rows.{length-unpack}
 use Rattle.table.specs.Edits.{without}
-use Rattle.table.specs.Entries.{Entry, time}
+use Rattle.table.specs.Entries.{Entry, time, unpack}
 use Rattle.table.specs.Order.{below, ordered, orderedFrom}
 use Rattle.table.specs.Windows.{EndsInRange, Retrieves, endOf, filter, firstRow, inWindow, outside, startOf, within}
 use Rattle.time.specs.Time.{MomentInRange, far, giga, instantOf}
@@ -259,21 +260,27 @@ module _ (es : List Entry) (o : ordered es ≡ true) where
         (window-part ∙ ap (λ (m : ℕ). take m (drop (startOf w es) es)) (sym window-number)))
         (eq-or-ne (length (inWindow w es)) 0)
 
-    -- the forms that the code's two answers ask for
-    pub retrieves-none : (a b : ℕ) → a ≡ startOf w es → b ≡ endOf w es → b ≤ a → Retrieves w es 0 0
-    unfolding firstRow
-    retrieves-none a b ea eb h =
-        let z : length (inWindow w es) ≡ 0 = omega (arith, window-number) in
-        record { row = rw (eq-eqb (length (inWindow w es)) 0 z); rows = sym z; bound = omega arith }
+-- the forms that the code's two answers ask for
+module _ (n : ℕ) (rows : List ℕ) (o : ordered (unpack n rows) ≡ true) (w : TimeWindow) (a b : ℕ) (ea : a ≡ startOf w (unpack n rows))
+    (eb : b ≡ endOf w (unpack n rows)) where
+  number-is : length (inWindow w (unpack n rows)) ≡ b - a
+  number-is = rw (ea, eb) (window-number (unpack n rows) o w)
 
-    pub retrieves-some : (a b : ℕ) → a ≡ startOf w es → b ≡ endOf w es → a < b → Retrieves w es a (b - a)
-    unfolding firstRow
-    retrieves-some a b ea eb h =
-        let l = window-number in
-        let k = below-le (high w) es in
-        let e = end-is w in
-        let z : length (inWindow w es) ≡ 0 → ⊥ = λ (q : length (inWindow w es) ≡ 0). omega arith in
-        record { row = rw (ne-eqb (length (inWindow w es)) 0 z) ea; rows = omega arith; bound = omega arith }
+  pub retrieves-none : b ≤ a → Retrieves w rows n 0 0
+  unfolding firstRow
+  retrieves-none h =
+      let z : length (inWindow w (unpack n rows)) ≡ 0 = omega (arith, number-is) in
+      record { row = rw (eq-eqb (length (inWindow w (unpack n rows))) 0 z); many = sym z; bound = omega arith }
+
+  pub retrieves-some : a < b → Retrieves w rows n a (b - a)
+  unfolding firstRow
+  retrieves-some h =
+      let l = number-is in
+      let k = below-le (high w) (unpack n rows) in
+      let e = end-is (unpack n rows) o w in
+      let u = length-unpack n rows in
+      let z : length (inWindow w (unpack n rows)) ≡ 0 → ⊥ = λ (q : length (inWindow w (unpack n rows)) ≡ 0). omega arith in
+      record { row = rw (ne-eqb (length (inWindow w (unpack n rows))) 0 z) ea; many = sym l; bound = omega arith }
 
 -- ---- by cases, for an argument of which the case is known
 

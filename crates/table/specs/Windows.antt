@@ -1,6 +1,6 @@
 -- Windows of time: all, from-to, from, to (document 01, "Schedule rules").
 use Prim.Native.Nat.{_+_, _≤_, ℕ}
-use Rattle.table.specs.Entries.{Entry, time}
+use Rattle.table.specs.Entries.{Entry, time, unpack}
 use Rattle.table.specs.Order.{below}
 use Rattle.time.specs.Time.{MomentInRange, instantOf}
 use lib.Dec.{eqb, leb}
@@ -46,10 +46,10 @@ endOf (To t) es = below (instantOf t + 1) es
 unfoldable pub firstRow : TimeWindow → List Entry → ℕ
 firstRow w es = cond (eqb (length (inWindow w es)) 0) 0 (startOf w es)
 
-pub record Retrieves (w : TimeWindow) (es : List Entry) (first number : ℕ) : Type 0 where
-  pub row : first ≡ firstRow w es
-  pub rows : number ≡ length (inWindow w es)
-  pub bound : first + number ≤ length es
+pub record Retrieves (w : TimeWindow) (rows : List ℕ) (count first number : ℕ) : Type 0 where
+  pub row : first ≡ firstRow w (unpack count rows)
+  pub many : number ≡ length (inWindow w (unpack count rows))
+  pub bound : first + number ≤ count
 
 -- the ends that it has are in range
 abbrev pub EndsInRange : TimeWindow → Type 0

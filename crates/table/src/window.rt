@@ -12,7 +12,7 @@ ghost use Rattle.table.specs.Windows.{EndsInRange, Retrieves, endOf, sta
 pub fn rows_in(rows: &[u64], count: usize, w: TimeWindow) -> Part
     requires { ⌜ Sound (now rows) count ⌝ }
     requires { ⌜ EndsInRange w ⌝ }
-    ensures { λ r. ⌜ Retrieves w (unpack count (now (rows .entry))) (r .first) (r .number) ⌝ }
+    ensures { λ r. ⌜ Retrieves w (now (rows .entry)) count (r .first) (r .number) ⌝ }
 {
     let a = start(rows, count, w);
     let b = end(rows, count, w);
