@@ -1,4 +1,5 @@
 -- Laws of the table: words, rows, order, judging, windows and matches; and what an insertion and a removal keep.
+pub mod Cases
 pub mod Words
 pub mod Rows
 pub mod Order

@@ -3,7 +3,8 @@
 use Prim.Native.Nat.{_+_, _<_, _≤_, suc, zero, ℕ}
 use Rattle.rules.proofs.All.{and-left, and-right, fails}
 use Rattle.rules.specs.Papers.{no}
-use Rattle.table.proofs.Order.{eq-or-ne, ordered-row, past-end}
+use Rattle.table.proofs.Cases.{eq-or-ne}
+use Rattle.table.proofs.Order.{ordered-row, past-end}
 use Rattle.table.proofs.Rows.{drop-row, getD-unpack, length-unpack}
 use Rattle.table.specs.Entries.{Entry, row, time, unpack}
 use Rattle.table.specs.Match.{firstMatch, isMatch, lastLike, lastMatch, like, none, victim}

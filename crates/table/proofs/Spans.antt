@@ -2,7 +2,8 @@
 -- Assumes nothing.
 use Prim.Native.Nat.{_*_, _+_, _-_, _<_, _≤_, suc, ℕ}
 use Rattle.rules.proofs.All.{and-right, and-true, fails}
-use Rattle.table.proofs.Order.{InRange, below-head, below-le, below-none, below-not, eq-or-ne, le-or-lt, ordered-cons}
+use Rattle.table.proofs.Cases.{eq-or-ne, le-or-lt}
+use Rattle.table.proofs.Order.{InRange, below-head, below-le, below-none, below-not, ordered-cons}
 use Rattle.table.proofs.Rows.{length-unpack}
 use Rattle.table.specs.Edits.{without}
 use Rattle.table.specs.Entries.{Entry, time, unpack}
