@@ -6,6 +6,7 @@ pub mod Order
 pub mod Judging
 pub mod Matches
 pub mod Spans
+pub mod WindowLaws
 pub mod Relaid
 pub mod Places
 pub mod Stays

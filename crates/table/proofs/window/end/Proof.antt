@@ -1,7 +1,7 @@
 -- `table::window::end` meets its contract, window by window.
 -- Assumes nothing.
 use Rattle.table.proofs.Rows.{length-unpack}
-use Rattle.table.proofs.Spans.{end-all, end-both, end-from, end-to, ends-both, ends-to}
+use Rattle.table.proofs.WindowLaws.{end-all, end-both, end-from, end-to, ends-both, ends-to}
 use mathlib.Core.Path.{_∙_, sym}
 use borrow.Author.Needs.{needs}
 use Rattle.table.proofs.window.end.Statement.{statement}

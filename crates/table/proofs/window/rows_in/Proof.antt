@@ -1,6 +1,6 @@
 -- `table::window::rows_in` meets its contract.
 -- Assumes nothing.
-use Rattle.table.proofs.Spans.{retrieves-none, retrieves-some}
+use Rattle.table.proofs.WindowLaws.{retrieves-none, retrieves-some}
 use borrow.Author.Needs.{needs}
 use Rattle.table.proofs.window.rows_in.Statement.{statement}
 use Rattle.table.proofs.window.rows_in.Tie as tie

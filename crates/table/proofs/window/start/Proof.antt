@@ -1,6 +1,6 @@
 -- `table::window::start` meets its contract, window by window.
 -- Assumes nothing.
-use Rattle.table.proofs.Spans.{ends-both, ends-from, start-all, start-both, start-from, start-to}
+use Rattle.table.proofs.WindowLaws.{ends-both, ends-from, start-all, start-both, start-from, start-to}
 use mathlib.Core.Path.{_∙_}
 use borrow.Author.Needs.{needs}
 use Rattle.table.proofs.window.start.Statement.{statement}
