@@ -2,7 +2,8 @@
 -- Assumes nothing.
 use Prim.Native.Nat.{_*_, _+_, _-_, _<_, _≤_, ℕ}
 use Rattle.rules.proofs.All.{fails}
-use Rattle.table.proofs.Order.{InRange, le-or-lt, ordered-cons, past-end, range-true}
+use Rattle.table.proofs.Cases.{le-or-lt}
+use Rattle.table.proofs.Order.{InRange, ordered-cons, past-end, range-true}
 use Rattle.table.proofs.Rows.{drop-row}
 use Rattle.table.specs.Entries.{row, time, unpack}
 use Rattle.table.specs.Faults.{Falls, Fault}

@@ -3,11 +3,12 @@
 use Prim.Native.Nat.{_+_, _<_, _≤_, suc, zero, ℕ}
 use Rattle.rules.proofs.All.{and-left, and-right, fails}
 use Rattle.rules.specs.Papers.{no}
-use Rattle.table.proofs.Order.{eq-or-ne, past-end}
+use Rattle.table.proofs.Cases.{eq-or-ne}
+use Rattle.table.proofs.Order.{ordered-row, past-end}
 use Rattle.table.proofs.Rows.{drop-row, getD-unpack, length-unpack}
 use Rattle.table.specs.Entries.{Entry, row, time, unpack}
-use Rattle.table.specs.Match.{firstMatch, isMatch, lastMatch, none, victim}
-use Rattle.time.specs.Time.{giga}
+use Rattle.table.specs.Match.{firstMatch, isMatch, lastLike, lastMatch, like, none, victim}
+use Rattle.table.specs.Order.{ordered}
 use borrow.Author.Tests.{eq-eqb, eqb-true, ne-eqb}
 use lib.Dec.{eqb}
 use lib.ListN.{drop, getD, length}
@@ -36,19 +37,26 @@ match-true id t e p q = rw (eq-eqb (e .id) id p) (eq-eqb (time e) t q)
 pub match-false : (id t : ℕ) (e : Entry) → (e .id ≡ id → time e ≡ t → ⊥) → isMatch id t e ≡ false
 match-false id t e h = fails (isMatch id t e) (λ m. let f = match-facts id t e m in h (f .same) (f .then))
 
--- word by word, for times in range
-module _ (e x : Entry) (e< : e .nanos < giga) (x< : x .nanos < giga) where
-  pub match-not-id : (x .id ≡ e .id → ⊥) → false ≡ isMatch (e .id) (time e) x
-  match-not-id h = sym (match-false (e .id) (time e) x (λ p q. h p))
+-- two rows, word by word
+module _ (n : ℕ) (w : List ℕ) (o : ordered (unpack n w) ≡ true) (i j : ℕ) (i< : i < n) (j< : j < n) where
+  pub rows-id : (row w j .id ≡ row w i .id → ⊥) → false ≡ like (row w i) (row w j)
+  rows-id h = sym (match-false (row w i .id) (time (row w i)) (row w j) (λ p q. h p))
 
-  pub match-not-secs : (x .secs ≡ e .secs → ⊥) → false ≡ isMatch (e .id) (time e) x
-  match-not-secs h = sym (match-false (e .id) (time e) x (λ p q. h (omega arith)))
+  pub rows-secs : (row w j .secs ≡ row w i .secs → ⊥) → false ≡ like (row w i) (row w j)
+  rows-secs h =
+      let a = ordered-row n w i o i< .nanos-lt in
+      let b = ordered-row n w j o j< .nanos-lt in
+      sym (match-false (row w i .id) (time (row w i)) (row w j) (λ p q. h (omega arith)))
 
-  pub match-nanos : x .id ≡ e .id → x .secs ≡ e .secs → eqb (x .nanos) (e .nanos) ≡ isMatch (e .id) (time e) x
-  match-nanos p s =
-      ⊎-elim (λ (q : x .nanos ≡ e .nanos). eq-eqb _ _ q ∙ sym (match-true (e .id) (time e) x p (omega arith)))
-      (λ (q : x .nanos ≡ e .nanos → ⊥). ne-eqb _ _ q ∙ sym (match-false (e .id) (time e) x (λ y z. q (omega arith))))
-      (eq-or-ne (x .nanos) (e .nanos))
+  pub rows-nanos : row w j .id ≡ row w i .id → row w j .secs ≡ row w i .secs
+      → eqb (row w j .nanos) (row w i .nanos) ≡ like (row w i) (row w j)
+  rows-nanos p s =
+      ⊎-elim
+      (λ (q : row w j .nanos ≡ row w i .nanos).
+      eq-eqb _ _ q ∙ sym (match-true (row w i .id) (time (row w i)) (row w j) p (omega arith)))
+      (λ (q : row w j .nanos ≡ row w i .nanos → ⊥).
+      ne-eqb _ _ q ∙ sym (match-false (row w i .id) (time (row w i)) (row w j) (λ y z. q (omega arith))))
+      (eq-or-ne (row w j .nanos) (row w i .nanos))
 
 -- ---- the first match
 
@@ -114,10 +122,10 @@ victim-none id n w i e h =
     let le : length es ≡ i = length-unpack n w ∙ sym h in
     sym (last-skip id t 0 (length es) es i (omega arith) ∙ last-end id t (0 + i) (length es) n w i (omega arith) ∙ le)
 
-pub victim-some : (id n : ℕ) (w : List ℕ) (i : ℕ) → i ≡ firstMatch id (unpack n w) → i < n
-    → lastMatch (row w i .id) (time (row w i)) (i + 1) i (drop (i + 1) (unpack n w)) ≡ victim id (unpack n w)
+pub victim-some : (id n : ℕ) (w : List ℕ) (i r : ℕ) → i ≡ firstMatch id (unpack n w) → i < n
+    → r ≡ lastLike (row w i) (i + 1) i (drop (i + 1) (unpack n w)) → r ≡ victim id (unpack n w)
 unfolding victim
-victim-some id n w i e h =
+victim-some id n w i r e h f =
     let es : List Entry = unpack n w in
     let le = length-unpack n w in
     let g : getD es (firstMatch id es) none ≡ row w i = rw (← e) (getD-unpack n w i none h) in
@@ -125,8 +133,10 @@ victim-some id n w i e h =
     let t : ℕ = time (row w i) in
     let q : time (getD es (firstMatch id es) none) ≡ t = ap time g in
     let z : 0 + i ≡ i = zero-add i in
-    rw (m, q)
+    let s : lastLike (row w i) (i + 1) i (drop (i + 1) es) ≡ victim id es
+    = rw (m, q)
     (sym
     (last-skip id t 0 (length es) es i (omega arith)
     ∙ ap (λ (x : ℕ). lastMatch id t x (length es) (drop i es)) z
-    ∙ last-go id t i (length es) n w i true h (sym (match-true id t (row w i) m refl))))
+    ∙ last-go id t i (length es) n w i true h (sym (match-true id t (row w i) m refl)))) in
+    f ∙ s

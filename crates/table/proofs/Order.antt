@@ -2,34 +2,21 @@
 -- Assumes nothing.
 use Prim.Native.Nat.{_+_, _<_, _≤_, suc, zero, ℕ}
 use Rattle.rules.proofs.All.{and-left, and-right}
+use Rattle.table.proofs.Cases.{le-or-lt}
 use Rattle.table.proofs.Rows.{drop-row, getD-unpack, length-unpack}
 use Rattle.table.specs.Edits.{insertAt, insertSorted, without}
 use Rattle.table.specs.Entries.{Entry, row, time, unpack}
 use Rattle.table.specs.Order.{below, inRange, ordered, orderedFrom}
 use Rattle.time.specs.Time.{far, giga}
-use borrow.Author.Tests.{eqb-false, eqb-true, le-leb, le-ltb, leb-false, leb-true, lt-leb, lt-ltb, ltb-true}
-use lib.Dec.{eqb, leb}
+use borrow.Author.Tests.{le-leb, le-ltb, leb-true, lt-leb, lt-ltb, ltb-true}
+use lib.Dec.{leb}
 use lib.ListN.{drop, drop-of-length-le, getD, length}
-use mathlib.Core.Bool.{Bool, false, true}
+use mathlib.Core.Bool.{Bool, cond, true}
 use mathlib.Core.List.{List, [], _∷_}
-use mathlib.Core.Logic.{_⊎_, inl, inr, ⊎-elim}
+use mathlib.Core.Logic.{⊎-elim}
 use mathlib.Core.Path.{_∙_, _≡_, ap, refl}
 use native.Mathlib.Nat.{le-of-suc-le-suc, not-suc-le-zero, suc-add, zero-add}
 use native.Mathlib.Omega.{arith}
-
-pub le-or-lt : (a b : ℕ) → (a ≤ b) ⊎ (b < a)
-le-or-lt a b = go (leb a b) refl
-  where
-    go : (t : Bool) → leb a b ≡ t → (a ≤ b) ⊎ (b < a)
-    go true e = inl (leb-true a b e)
-    go false e = inr (leb-false a b e)
-
-pub eq-or-ne : (a b : ℕ) → (a ≡ b) ⊎ (a ≡ b → ⊥)
-eq-or-ne a b = go (eqb a b) refl
-  where
-    go : (t : Bool) → eqb a b ≡ t → (a ≡ b) ⊎ (a ≡ b → ⊥)
-    go true e = inl (eqb-true a b e)
-    go false e = inr (eqb-false a b e)
 
 -- ---- order
 
@@ -158,11 +145,11 @@ below-go t n w i h l = rw (drop-row n w i h) (below-head t (row w i) _ l)
 
 pub insert-later : (e x : Entry) (es : List Entry) → time x ≤ time e → insertSorted e (x ∷ es) ≡ x ∷ insertSorted e es
 unfolding insertSorted
-insert-later e x es h = rw (le-leb (time x) (time e) h)
+insert-later e x es h = ap (λ (b : Bool). cond b (x ∷ insertSorted e es) (e ∷ x ∷ es)) (le-leb (time x) (time e) h)
 
 pub insert-here : (e x : Entry) (es : List Entry) → time e < time x → insertSorted e (x ∷ es) ≡ e ∷ x ∷ es
 unfolding insertSorted
-insert-here e x es h = rw (lt-leb (time x) (time e) h)
+insert-here e x es h = ap (λ (b : Bool). cond b (x ∷ insertSorted e es) (e ∷ x ∷ es)) (lt-leb (time x) (time e) h)
 
 -- after every entry that is not later: at the index that `below` gives
 pub insertSorted-at : (e : Entry) (es : List Entry) → insertSorted e es ≡ insertAt (below (time e + 1) es) e es

@@ -1,7 +1,8 @@
 -- Where an inserted entry stands: behind every entry that is not later, equal times in insertion order.
 -- Assumes nothing.
 use Prim.Native.Nat.{_+_, _<_, _≤_, ℕ}
-use Rattle.table.proofs.Order.{below-above, below-le, below-under, eq-or-ne, insert-here, insert-later, insertSorted-at, le-or-lt, ordered-cons, ordered-make}
+use Rattle.table.proofs.Cases.{eq-or-ne, le-or-lt}
+use Rattle.table.proofs.Order.{below-above, below-le, below-under, insert-here, insert-later, insertSorted-at, ordered-cons, ordered-make}
 use Rattle.table.specs.Edits.{insertAt, insertSorted}
 use Rattle.table.specs.Entries.{Entry, time}
 use Rattle.table.specs.Match.{none}

@@ -1,14 +1,17 @@
 -- What the words hold after a change: the entries, zeros in the rows vacated, and behind those all as it was.
 -- Assumes nothing.
 use Prim.Native.Nat.{_*_, _+_, _-_, _<_, _≤_, max, ℕ}
-use Rattle.table.proofs.Rows.{entry≡, length-pack, length-relaid}
+use Rattle.table.proofs.Order.{past-end}
+use Rattle.table.proofs.Rows.{entry≡, length-pack, length-relaid, relaid-at}
 use Rattle.table.proofs.Words.{getD-past}
-use Rattle.table.specs.Entries.{Entry, pack, relaid, row, width}
+use Rattle.table.specs.Edits.{afterRemove, without}
+use Rattle.table.specs.Entries.{Entry, pack, relaid, row, unpack, width}
 use Rattle.table.specs.Match.{none}
 use lib.ListN.{List·getD-append, drop, getD, getD-replicate, length, length-append, length-replicate, replicate}
 use lib.Seq.{getD-drop}
-use mathlib.Core.List.{List, _++_, append-assoc}
-use mathlib.Core.Path.{_∙_, _≡_, ap}
+use mathlib.Core.List.{List, [], _++_, append-assoc}
+use mathlib.Core.Path.{_∙_, _≡_, ap, refl}
+use native.Mathlib.Nat.{zero-add}
 use native.Mathlib.Omega.{arith}
 
 module _ (old : List ℕ) (n : ℕ) (es : List Entry) (room : max n (length es) * width ≤ length old) where
@@ -44,3 +47,9 @@ module _ (old : List ℕ) (n : ℕ) (es : List Entry) (room : max n (length es) 
   relaid-vacated i h l =
       entry≡ (zero-at (i * width) (omega arith) (omega arith)) (zero-at (i * width + 1) (omega arith) (omega arith))
       (zero-at (i * width + 2) (omega arith) (omega arith)) (zero-at (i * width + 3) (omega arith) (omega arith))
+
+-- all n rows removed, as a fresh start does: zeros, and behind them all as it was
+pub remove-all : (w : List ℕ) (n : ℕ) → afterRemove w n 0 n ≡ replicate (n * width) 0 ++ drop (n * width) w
+remove-all w n =
+    let e : without 0 n (unpack n w) ≡ [] = unfold without in rw (zero-add n) (past-end n w n (omega arith)) in
+    ap (relaid w n) e ∙ relaid-at w n (n * width) (n * width) [] (omega arith) (omega arith) ∙ (unfold pack in refl)

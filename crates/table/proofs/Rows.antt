@@ -29,7 +29,9 @@ skip₀ : (w : List ℕ) (i j : ℕ) → width + i * width ≡ j → getD (drop 
 skip₀ w i j e = getD-drop width w (i * width) 0 ∙ ap (λ (x : ℕ). getD w x 0) e
 
 row-drop : (w : List ℕ) (i : ℕ) → row (drop width w) i ≡ row w (suc i)
-row-drop w i = entry≡ (skip₀ w i (suc i * width) (omega arith)) (skip w i 1 (suc i * width + 1) (omega arith)) (skip w i 2 (suc i * width + 2) (omega arith)) (skip w i 3 (suc i * width + 3) (omega arith))
+row-drop w i =
+    entry≡ (skip₀ w i (suc i * width) (omega arith)) (skip w i 1 (suc i * width + 1) (omega arith))
+    (skip w i 2 (suc i * width + 2) (omega arith)) (skip w i 3 (suc i * width + 3) (omega arith))
 
 pub getD-unpack : (n : ℕ) (w : List ℕ) (i : ℕ) (d : Entry) → i < n → getD (unpack n w) i d ≡ row w i
 unfolding unpack
@@ -99,7 +101,8 @@ unpack-pack (e ∷ es) r = ap (λ (t : List Entry). e ∷ t) (unpack-pack es r)
 pub pack-take : (n : ℕ) (w : List ℕ) (i : ℕ) → i ≤ n → n * width ≤ length w → pack (take i (unpack n w)) ≡ take (i * width) w
 pack-take n w i h l = ap pack (take-unpack n w i h) ∙ pack-unpack i w (omega arith)
 
-pub pack-drop : (n : ℕ) (w : List ℕ) (i : ℕ) → i ≤ n → n * width ≤ length w → pack (drop i (unpack n w)) ≡ take ((n - i) * width) (drop (i * width) w)
+pub pack-drop : (n : ℕ) (w : List ℕ) (i : ℕ) → i ≤ n → n * width ≤ length w
+    → pack (drop i (unpack n w)) ≡ take ((n - i) * width) (drop (i * width) w)
 pack-drop n w i h l = ap pack (drop-unpack n w i h) ∙ pack-unpack (n - i) (drop (i * width) w) (simp length-drop (omega arith))
 
 -- the table that a change leaves holds the entries that it should
@@ -107,13 +110,17 @@ pub unpack-relaid : (old : List ℕ) (n : ℕ) (es : List Entry) → unpack (len
 unfolding relaid
 unpack-relaid old n es = rw append-assoc (unpack-pack es _)
 
-pub length-relaid : (old : List ℕ) (n : ℕ) (es : List Entry) → max n (length es) * width ≤ length old → length (relaid old n es) ≡ length old
+pub length-relaid : (old : List ℕ) (n : ℕ) (es : List Entry) → max n (length es) * width ≤ length old
+    → length (relaid old n es) ≡ length old
 unfolding relaid
 length-relaid old n es h = simp (length-append, length-pack, length-replicate, length-drop) (omega arith)
 
-pub relaid-at : (old : List ℕ) (n z k : ℕ) (es : List Entry) → (n - length es) * width ≡ z → max n (length es) * width ≡ k → relaid old n es ≡ pack es ++ replicate z 0 ++ drop k old
+pub relaid-at : (old : List ℕ) (n z k : ℕ) (es : List Entry) → (n - length es) * width ≡ z → max n (length es) * width ≡ k
+    → relaid old n es ≡ pack es ++ replicate z 0 ++ drop k old
 unfolding relaid
-relaid-at old n z k es p q = ap (λ (x : ℕ). pack es ++ replicate x 0 ++ drop (max n (length es) * width) old) p ∙ ap (λ (x : ℕ). pack es ++ replicate z 0 ++ drop x old) q
+relaid-at old n z k es p q =
+    ap (λ (x : ℕ). pack es ++ replicate x 0 ++ drop (max n (length es) * width) old) p
+    ∙ ap (λ (x : ℕ). pack es ++ replicate z 0 ++ drop x old) q
 
 -- no change
 pub relaid-same : (old : List ℕ) (n : ℕ) → n * width ≤ length old → relaid old n (unpack n old) ≡ old
@@ -123,14 +130,15 @@ relaid-same old n h =
     ∙ ap (λ (x : List ℕ). x ++ [] ++ drop (n * width) old) (pack-unpack n old h)
     ∙ rw append-nil (take-append-drop (n * width) old)
 
--- four words stored one by one
-stored : (w : List ℕ) (b : ℕ) (e : Entry) → b + width ≤ length w
-    → set (set (set (set w b (e .secs)) (b + 1) (e .nanos)) (b + 2) (e .id)) (b + 3) (e .addr) ≡ take b w ++ words e ++ drop (b + width) w
+-- an entry's words stored one by one
+abbrev stores : List ℕ → ℕ → Entry → List ℕ
+stores w b e = set (set (set (set w b (e .secs)) (b + 1) (e .nanos)) (b + 2) (e .id)) (b + 3) (e .addr)
+
+stored : (w : List ℕ) (b : ℕ) (e : Entry) → b + width ≤ length w → stores w b e ≡ take b w ++ words e ++ drop (b + width) w
 stored w b e h = simp (add-one, add-two, add-three) (sets-eq (words e) w b h)
 
 pub inserted : (w : List ℕ) (n at : ℕ) (e : Entry) → at ≤ n → (n + 1) * width ≤ length w
-    → set (set (set (set (moved w (at * width + width) (at * width) ((n - at) * width)) (at * width) (e .secs)) (at * width + 1) (e .nanos)) (at * width + 2) (e .id)) (at * width + 3) (e .addr)
-    ≡ relaid w n (insertAt at e (unpack n w))
+    → stores (moved w (at * width + width) (at * width) ((n - at) * width)) (at * width) e ≡ relaid w n (insertAt at e (unpack n w))
 unfolding moved pack insertAt
 inserted w n at e h l =
     let b : ℕ = at * width in
@@ -142,7 +150,8 @@ inserted w n at e h l =
     let asc : X ≡ take (b + width) w ++ (M ++ R) = append-assoc (take (b + width) w) M R in
     let lT : length (take (b + width) w) ≡ b + width = length-take-le (b + width) w (omega arith) in
     let lX : b + width ≤ length X = rw asc (simp length-append (omega arith)) in
-    let e1 : take b X ≡ take b w = ap (λ (x : List ℕ). take b x) asc ∙ take-append-le b (take (b + width) w) (M ++ R) (omega arith) ∙ take-take b (b + width) w (omega arith) in
+    let e1 : take b X ≡ take b w
+    = ap (λ (x : List ℕ). take b x) asc ∙ take-append-le b (take (b + width) w) (M ++ R) (omega arith) ∙ take-take b (b + width) w (omega arith) in
     let e2 : drop (b + width) X ≡ M ++ R = ap (λ (x : List ℕ). drop (b + width) x) asc ∙ drop-at (take (b + width) w) (M ++ R) (b + width) lT in
     let le : length (take at es ++ e ∷ drop at es) ≡ n + 1 = simp (length-append, length-take, length-drop, length-unpack) (omega arith) in
     let r : b + width + m ≡ max n (length (take at es ++ e ∷ drop at es)) * width = omega arith in
@@ -196,14 +205,16 @@ unfolding unpack
 unpack-take zero w k h = refl
 unpack-take (suc n) w k h =
     let e : k ≡ width + (k - width) = omega arith in
-    let d : drop width (take k w) ≡ take (k - width) (drop width w) = ap (λ (j : ℕ). drop width (take j w)) e ∙ drop-take width (k - width) w in
+    let d : drop width (take k w) ≡ take (k - width) (drop width w)
+    = ap (λ (j : ℕ). drop width (take j w)) e ∙ drop-take width (k - width) w in
     let f : row (take k w) 0 ≡ row w 0
     = entry≡ (getD-take k w 0 0 (omega arith)) (getD-take k w 1 0 (omega arith)) (getD-take k w 2 0 (omega arith)) (getD-take k w 3 0 (omega arith)) in
     ap (λ (x : Entry). x ∷ unpack n (drop width (take k w))) f
     ∙ ap (λ (x : List ℕ). row w 0 ∷ unpack n x) d
     ∙ ap (λ (x : List Entry). row w 0 ∷ x) (unpack-take n (drop width w) (k - width) (omega arith))
 
-pub unpack-part : (count : ℕ) (w : List ℕ) (f n : ℕ) → f + n ≤ count → unpack n (take ((f + n) * width - f * width) (drop (f * width) w)) ≡ take n (drop f (unpack count w))
+pub unpack-part : (count : ℕ) (w : List ℕ) (f n : ℕ) → f + n ≤ count
+    → unpack n (take ((f + n) * width - f * width) (drop (f * width) w)) ≡ take n (drop f (unpack count w))
 unpack-part count w f n h =
     unpack-take n (drop (f * width) w) ((f + n) * width - f * width) (omega arith)
     ∙ sym (ap (λ (x : List Entry). take n x) (drop-unpack count w f (omega arith)) ∙ take-unpack (count - f) (drop (f * width) w) n (omega arith))

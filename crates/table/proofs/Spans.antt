@@ -1,35 +1,28 @@
--- The rows of a window stand together in an ordered table: each window is a span between two numbers, the second outside it.
+-- Spans of an ordered list, from one number up to another, the second outside: an unbroken range of the entries.
 -- Assumes nothing.
-use Prim.Native.Nat.{_*_, _+_, _-_, _<_, _≤_, suc, ℕ}
-use Rattle.rules.proofs.All.{and-right, and-true, fails}
-use Rattle.table.proofs.Order.{InRange, below-head, below-le, below-none, below-not, eq-or-ne, le-or-lt, ordered-cons}
+use Prim.Native.Nat.{_-_, _<_, _≤_, suc, ℕ}
+use Rattle.rules.proofs.All.{and-right, fails}
+use Rattle.table.proofs.Cases.{le-or-lt}
+use Rattle.table.proofs.Order.{InRange, below-head, below-none, below-not, ordered-cons}
 use Rattle.table.specs.Edits.{without}
 use Rattle.table.specs.Entries.{Entry, time}
-use Rattle.table.specs.Order.{below, ordered, orderedFrom}
-use Rattle.table.specs.Windows.{EndsInRange, endOf, filter, firstRow, inWindow, outside, startOf, within}
-use Rattle.time.specs.Time.{MomentInRange, far, giga, instantOf}
-use borrow.Author.Tests.{eq-eqb, le-leb, le-ltb, lt-leb, lt-ltb, ltb-true, ne-eqb}
+use Rattle.table.specs.Order.{below, orderedFrom}
+use Rattle.table.specs.Windows.{filter}
+use borrow.Author.Tests.{le-leb, lt-leb, lt-ltb, ltb-true}
 use lib.Dec.{leb, ltb}
-use lib.ListN.{drop, length, length-drop, length-take, take, take-append-drop}
+use lib.ListN.{drop, take, take-append-drop}
 use mathlib.Core.Bool.{Bool, _&&_, false, not, true}
 use mathlib.Core.List.{List, [], _∷_}
 use mathlib.Core.Logic.{⊎-elim}
 use mathlib.Core.Path.{_∙_, _≡_, ap, refl, sym}
 use native.Mathlib.Nat.{add-zero, sub-zero, suc-add, suc-sub-suc, zero-add}
 use native.Mathlib.Omega.{arith}
-use Rattle.time.specs.declared.Moment.{Moment}
-use Rattle.table.specs.declared.TimeWindow.{TimeWindow}
-use Rattle.table.specs.declared.TimeWindow.the-variants.{All, From, FromTo, To}
 
-between : ℕ → ℕ → Entry → Bool
+unfoldable pub between : ℕ → ℕ → Entry → Bool
 between lo hi e = leb lo (time e) && ltb (time e) hi
 
-unfoldable out : ℕ → ℕ → Entry → Bool
+unfoldable pub out : ℕ → ℕ → Entry → Bool
 out lo hi e = not (between lo hi e)
-
--- later than every time in range
-abbrev top : ℕ
-top = (far + far + 1) * giga
 
 -- ---- one step of each definition
 
@@ -41,7 +34,7 @@ filter-out : (p : Entry → Bool) (e : Entry) (es : List Entry) → p e ≡ fals
 unfolding filter
 filter-out p e es h = rw h
 
-filter-same : (p q : Entry → Bool) (u : ℕ) (es : List Entry) → ((e : Entry) → InRange e → p e ≡ q e) → orderedFrom u es ≡ true
+pub filter-same : (p q : Entry → Bool) (u : ℕ) (es : List Entry) → ((e : Entry) → InRange e → p e ≡ q e) → orderedFrom u es ≡ true
     → filter p es ≡ filter q es
 unfolding filter
 filter-same p q u [] h o = refl
@@ -62,7 +55,7 @@ module _ (lo hi : ℕ) (e : Entry) where
   unfolding between
   behind h = fails (leb lo (time e) && ltb (time e) hi) (λ t. omega (arith, ltb-true (time e) hi (and-right (leb lo (time e)) (ltb (time e) hi) t)))
 
-  out-of : (b : Bool) → between lo hi e ≡ b → out lo hi e ≡ not b
+  pub out-of : (b : Bool) → between lo hi e ≡ b → out lo hi e ≡ not b
   unfolding out
   out-of b h = ap not h
 
@@ -81,7 +74,7 @@ out-all lo hi u (e ∷ es) o h =
     filter-in (out lo hi) e es (out-of lo hi e false (behind lo hi e (omega arith)))
     ∙ ap (λ (r : List Entry). e ∷ r) (out-all lo hi (time e) es (a .rest) (omega arith))
 
-without-none : (i : ℕ) (es : List Entry) → without i 0 es ≡ es
+pub without-none : (i : ℕ) (es : List Entry) → without i 0 es ≡ es
 unfolding without
 without-none i es = rw (add-zero i) (take-append-drop i es)
 
@@ -94,7 +87,7 @@ unfolding without
 without-later i m e es = rw (suc-add i m)
 
 module _ (lo hi : ℕ) where
-  span-part : (u : ℕ) (es : List Entry) → orderedFrom u es ≡ true
+  pub span-part : (u : ℕ) (es : List Entry) → orderedFrom u es ≡ true
       → filter (between lo hi) es ≡ take (below hi es - below lo es) (drop (below lo es) es)
   span-part u [] o = unfold filter below in refl
   span-part u (e ∷ es) o =
@@ -122,7 +115,7 @@ module _ (lo hi : ℕ) where
       (le-or-lt hi (time e)))
       (le-or-lt lo (time e))
 
-  span-left : (u : ℕ) (es : List Entry) → orderedFrom u es ≡ true
+  pub span-left : (u : ℕ) (es : List Entry) → orderedFrom u es ≡ true
       → filter (out lo hi) es ≡ without (below lo es) (below hi es - below lo es) es
   span-left u [] o = unfold filter below without in refl
   span-left u (e ∷ es) o =
@@ -157,151 +150,3 @@ module _ (lo hi : ℕ) where
       ∙ sym (without-later (below lo es) (below hi es - below lo es) e es)))
       (le-or-lt hi (time e)))
       (le-or-lt lo (time e))
-
--- ---- a window as a span
-
-low : TimeWindow → ℕ
-low All = 0
-low (FromTo f t) = instantOf f
-low (From f) = instantOf f
-low (To t) = 0
-
-high : TimeWindow → ℕ
-high All = top
-high (FromTo f t) = instantOf t + 1
-high (From f) = top
-high (To t) = instantOf t + 1
-
-leb-ltb : (a b : ℕ) → leb a b ≡ ltb a (b + 1)
-leb-ltb a b =
-    ⊎-elim (λ (h : a ≤ b). le-leb a b h ∙ sym (lt-ltb a (b + 1) (omega arith)))
-    (λ (h : b < a). lt-leb a b h ∙ sym (le-ltb a (b + 1) (omega arith)))
-    (le-or-lt a b)
-
-within-is : (w : TimeWindow) (e : Entry) → InRange e → within w e ≡ between (low w) (high w) e
-unfolding within between low high
-within-is All e r =
-    let s = r .secs-le in
-    let n = r .nanos-lt in
-    sym (rw (le-leb 0 (time e) (omega arith)) (lt-ltb (time e) top (omega arith)))
-within-is (FromTo f t) e r = rw (leb-ltb (time e) (instantOf t))
-within-is (From f) e r =
-    let s = r .secs-le in
-    let n = r .nanos-lt in
-    sym (rw (lt-ltb (time e) top (omega arith)) (and-true (leb (instantOf f) (time e))))
-within-is (To t) e r = rw (le-leb 0 (time e) (omega arith)) (leb-ltb (time e) (instantOf t))
-
-below-all : (u : ℕ) (es : List Entry) → orderedFrom u es ≡ true → below top es ≡ length es
-below-all u [] o = unfold below in refl
-below-all u (e ∷ es) o =
-    let a = ordered-cons u e es o in
-    let s = a .range .secs-le in
-    let n = a .range .nanos-lt in
-    below-head top e es (omega arith) ∙ ap suc (below-all (time e) es (a .rest))
-
-module _ (es : List Entry) (o : ordered es ≡ true) where
-  start-is : (w : TimeWindow) → startOf w es ≡ below (low w) es
-  unfolding startOf low
-  start-is All = sym (below-none 0 0 es o (omega arith))
-  start-is (FromTo f t) = refl
-  start-is (From f) = refl
-  start-is (To t) = sym (below-none 0 0 es o (omega arith))
-
-  end-is : (w : TimeWindow) → endOf w es ≡ below (high w) es
-  unfolding endOf high
-  end-is All = sym (below-all 0 es o)
-  end-is (FromTo f t) = refl
-  end-is (From f) = sym (below-all 0 es o)
-  end-is (To t) = refl
-
-  module _ (w : TimeWindow) where
-    -- the window's entries are one unbroken range of the rows
-    pub window-part : inWindow w es ≡ take (endOf w es - startOf w es) (drop (startOf w es) es)
-    window-part =
-        rw (start-is w, end-is w)
-        (filter-same (within w) (between (low w) (high w)) 0 es (within-is w) o ∙ span-part (low w) (high w) 0 es o)
-
-    pub window-number : length (inWindow w es) ≡ endOf w es - startOf w es
-    window-number =
-        let l = below-le (high w) es in
-        let e = end-is w in
-        rw window-part (simp (length-take, length-drop) (omega arith))
-
-    -- and the others are what the range's removal leaves
-    pub window-left : outside w es ≡ without (startOf w es) (endOf w es - startOf w es) es
-    window-left =
-        rw (start-is w, end-is w)
-        (filter-same (λ e. not (within w e)) (out (low w) (high w)) 0 es (λ e r. ap not (within-is w e r) ∙ sym (out-of (low w) (high w) e _ refl)) o
-        ∙ span-left (low w) (high w) 0 es o)
-
-    -- the two numbers that retrieval answers say which rows those are
-    pub window-rows : outside w es ≡ without (firstRow w es) (length (inWindow w es)) es
-    unfolding firstRow
-    window-rows =
-        ⊎-elim
-        (λ (z : length (inWindow w es) ≡ 0).
-        let y : endOf w es - startOf w es ≡ 0 = sym window-number ∙ z in
-        rw (eq-eqb (length (inWindow w es)) 0 z, z) (window-left ∙ ap (λ (m : ℕ). without (startOf w es) m es) y ∙ without-none _ es ∙ sym (without-none 0 es)))
-        (λ (z : length (inWindow w es) ≡ 0 → ⊥).
-        rw (ne-eqb (length (inWindow w es)) 0 z) (window-left ∙ ap (λ (m : ℕ). without (startOf w es) m es) (sym window-number)))
-        (eq-or-ne (length (inWindow w es)) 0)
-
-    -- the forms that the code's two answers ask for
-    pub window-none : (a b : ℕ) → a ≡ startOf w es → b ≡ endOf w es → b ≤ a
-        → (_≡_ {A = ℕ} 0 (firstRow w es)) × (_≡_ {A = ℕ} 0 (length (inWindow w es)))
-    unfolding firstRow
-    window-none a b ea eb h =
-        let z : length (inWindow w es) ≡ 0 = omega (arith, window-number) in
-        (rw (eq-eqb (length (inWindow w es)) 0 z), sym z)
-
-    pub window-some : (a b : ℕ) → a ≡ startOf w es → b ≡ endOf w es → a < b → (a ≡ firstRow w es) × (b - a ≡ length (inWindow w es))
-    unfolding firstRow
-    window-some a b ea eb h =
-        let l = window-number in
-        let z : length (inWindow w es) ≡ 0 → ⊥ = λ (e : length (inWindow w es) ≡ 0). omega arith in
-        (rw (ne-eqb (length (inWindow w es)) 0 z) ea, omega arith)
-
--- ---- by cases, for an argument of which the case is known
-
-module _ (w : TimeWindow) where
-  pub ends-both : (f t : Moment) → w ≡ FromTo f t → EndsInRange w → MomentInRange f × MomentInRange t
-  ends-both f t e h = rw e at h
-
-  pub ends-from : (f : Moment) → w ≡ From f → EndsInRange w → MomentInRange f
-  ends-from f e h = rw e at h
-
-  pub ends-to : (t : Moment) → w ≡ To t → EndsInRange w → MomentInRange t
-  ends-to t e h = rw e at h
-
-  module _ (es : List Entry) where
-    pub start-all : w ≡ All → 0 ≡ startOf w es
-    unfolding startOf
-    start-all e = rw e
-
-    pub start-both : (f t : Moment) → w ≡ FromTo f t → below (instantOf f) es ≡ startOf w es
-    unfolding startOf
-    start-both f t e = rw e
-
-    pub start-from : (f : Moment) → w ≡ From f → below (instantOf f) es ≡ startOf w es
-    unfolding startOf
-    start-from f e = rw e
-
-    pub start-to : (t : Moment) → w ≡ To t → 0 ≡ startOf w es
-    unfolding startOf
-    start-to t e = rw e
-
-    pub end-all : w ≡ All → length es ≡ endOf w es
-    unfolding endOf
-    end-all e = rw e
-
-    pub end-both : (f t : Moment) → w ≡ FromTo f t → below (instantOf t + 1) es ≡ endOf w es
-    unfolding endOf
-    end-both f t e = rw e
-
-    pub end-from : (f : Moment) → w ≡ From f → length es ≡ endOf w es
-    unfolding endOf
-    end-from f e = rw e
-
-    pub end-to : (t : Moment) → w ≡ To t → below (instantOf t + 1) es ≡ endOf w es
-    unfolding endOf
-    end-to t e = rw e

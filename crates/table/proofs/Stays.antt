@@ -1,14 +1,16 @@
 -- A sound table stays sound: read back from the words that an insertion or a removal leaves.
 -- Assumes nothing.
-use Prim.Native.Nat.{_+_, _-_, _≤_, ℕ}
+use Prim.Native.Nat.{_*_, _+_, _-_, _≤_, ℕ}
 use Rattle.table.proofs.Order.{InRange, below-le, insert-ordered, insertSorted-at, without-ordered}
 use Rattle.table.proofs.Rows.{length-relaid, length-unpack, unpack-relaid}
 use Rattle.table.specs.Edits.{afterInsert, afterRemove, insertAt, insertSorted, without}
-use Rattle.table.specs.Entries.{Entry, time, unpack}
-use Rattle.table.specs.Order.{Sound, Spare, ordered}
-use lib.ListN.{length, length-append, length-drop, length-take}
+use Rattle.table.specs.Entries.{Entry, time, unpack, width}
+use Rattle.table.specs.Order.{Sound, Spare, mostEntries, ordered}
+use lib.ListN.{drop, length, length-append, length-drop, length-take}
+use mathlib.Core.Bool.{Bool, true}
 use mathlib.Core.List.{List}
-use mathlib.Core.Path.{_∙_, _≡_, ap}
+use mathlib.Core.Path.{_∙_, _≡_, ap, sym}
+use native.Mathlib.Nat.{zero-add}
 use native.Mathlib.Omega.{arith}
 
 pub length-insertSorted : (e : Entry) (es : List Entry) → length (insertSorted e es) ≡ length es + 1
@@ -20,7 +22,16 @@ pub length-without : (i m : ℕ) (es : List Entry) → i + m ≤ length es → l
 unfolding without
 length-without i m es h = simp (length-append, length-take, length-drop) (omega arith)
 
+-- the first m removed, as a tick does
+pub without-first : (m : ℕ) (es : List Entry) → without 0 m es ≡ drop m es
+unfolding without
+without-first m es = rw (zero-add m)
+
 module _ (w : List ℕ) (n : ℕ) where
+  -- what judging gives
+  pub judged-sound : (r : Bool) → n * width ≤ length w → n ≤ mostEntries → r ≡ ordered (unpack n w) → r ≡ true → Sound w n
+  judged-sound r h k e t = record { room = h; few = k; kept = sym e ∙ t }
+
   inserts : (e : Entry) → length (insertSorted e (unpack n w)) ≡ n + 1
   inserts e = rw (length-unpack n w) at (length-insertSorted e (unpack n w))
 

@@ -1,13 +1,14 @@
 -- What the victim is: it has the ID, no entry with the ID is earlier, and of those at its time it is the last.
 -- Assumes nothing.
 use Prim.Native.Nat.{_+_, _-_, _<_, _≤_, suc, zero, ℕ}
+use Rattle.table.proofs.Cases.{eq-or-ne, true-or-false}
 use Rattle.table.proofs.Matches.{first-found, first-hit, first-miss, last-step, match-facts, match-true}
-use Rattle.table.proofs.Order.{eq-or-ne, ordered-pair}
+use Rattle.table.proofs.Order.{ordered-pair}
 use Rattle.table.specs.Entries.{Entry, time}
 use Rattle.table.specs.Match.{firstMatch, isMatch, lastMatch, none, victim}
 use Rattle.table.specs.Order.{ordered}
 use lib.ListN.{getD, length}
-use mathlib.Core.Bool.{Bool, false, true}
+use mathlib.Core.Bool.{false, true}
 use mathlib.Core.List.{List, [], _∷_}
 use mathlib.Core.Logic.{_⊎_, inl, inr, ⊎-elim}
 use mathlib.Core.Path.{_∙_, _≡_, refl}
@@ -28,10 +29,6 @@ first-le id (e ∷ es) (suc j) l h =
     (eq-or-ne (e .id) id)
 
 -- ---- the last match at a time
-
-true-or-false : (t : Bool) → (t ≡ true) ⊎ (t ≡ false)
-true-or-false true = inl refl
-true-or-false false = inr refl
 
 module _ (id t : ℕ) where
   last-ge : (k b : ℕ) (es : List Entry) → b ≤ k → b ≤ lastMatch id t k b es

@@ -97,5 +97,6 @@ clear-step w at k l =
     ap (λ (r : List ℕ). set (take at w ++ z ++ r) (at + k) 0) (drop-cons w (at + k) 0 l)
     ∙ set-at (take at w ++ z) (getD w (at + k) 0) (drop (suc (at + k)) w) 0 (at + k) lp
     ∙ sym (append-snoc (take at w ++ z) 0 (drop (suc (at + k)) w))
-    ∙ ap (λ (r : List ℕ). r ++ drop (suc (at + k)) w) (append-assoc (take at w) z o ∙ ap (λ (r : List ℕ). take at w ++ r) (replicate-append-replicate k 1 0))
+    ∙ ap (λ (r : List ℕ). r ++ drop (suc (at + k)) w)
+    (append-assoc (take at w) z o ∙ ap (λ (r : List ℕ). take at w ++ r) (replicate-append-replicate k 1 0))
     ∙ ap (λ (j : ℕ). take at w ++ replicate (k + 1) 0 ++ drop j w) (sym n2)

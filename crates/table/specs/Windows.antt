@@ -1,12 +1,13 @@
 -- Windows of time: all, from-to, from, to (document 01, "Schedule rules").
-use Prim.Native.Nat.{_+_, ℕ}
-use Rattle.table.specs.Entries.{Entry, time}
+use Prim.Native.Nat.{_+_, _≤_, ℕ}
+use Rattle.table.specs.Entries.{Entry, time, unpack}
 use Rattle.table.specs.Order.{below}
 use Rattle.time.specs.Time.{MomentInRange, instantOf}
 use lib.Dec.{eqb, leb}
 use lib.ListN.{length}
 use mathlib.Core.Bool.{Bool, _&&_, cond, not, true}
 use mathlib.Core.List.{List, [], _∷_}
+use mathlib.Core.Path.{_≡_}
 use Rattle.table.specs.declared.TimeWindow.{TimeWindow}
 use Rattle.table.specs.declared.TimeWindow.the-variants.{All, From, FromTo, To}
 
@@ -44,6 +45,11 @@ endOf (To t) es = below (instantOf t + 1) es
 -- retrieval: the first row of the window, row 0 where it has none
 unfoldable pub firstRow : TimeWindow → List Entry → ℕ
 firstRow w es = cond (eqb (length (inWindow w es)) 0) 0 (startOf w es)
+
+pub record Retrieves (w : TimeWindow) (rows : List ℕ) (count first number : ℕ) : Type 0 where
+  pub row : first ≡ firstRow w (unpack count rows)
+  pub many : number ≡ length (inWindow w (unpack count rows))
+  pub bound : first + number ≤ count
 
 -- the ends that it has are in range
 abbrev pub EndsInRange : TimeWindow → Type 0

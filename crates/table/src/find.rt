@@ -3,8 +3,8 @@ use crate::ROW;
 ghost use mathlib.Core.Path.{_≡_};
 ghost use Prim.Native.Nat.{_+_, _<_, _≤_};
 ghost use lib.ListN.{drop};
-ghost use Rattle.table.specs.Entries.{row, time, unpack};
-ghost use Rattle.table.specs.Match.{firstMatch, isMatch, lastMatch};
+ghost use Rattle.table.specs.Entries.{row, unpack};
+ghost use Rattle.table.specs.Match.{firstMatch, lastLike, like};
 ghost use Rattle.table.specs.Match.{victim as victimOf};
 ghost use Rattle.table.specs.Order.{Held, Sound};
 
@@ -41,8 +41,7 @@ fn last_match(rows: &[u64], count: usize, i: usize) -> usize
     requires { ⌜ Sound (now rows) count ⌝ }
     requires { ⌜ i < count ⌝ }
     ensures { λ r. ⌜ (r < count)
-        × (r ≡ lastMatch (row (now (rows .entry)) i .id) (time (row (now (rows .entry)) i)) (i + 1) i
-        (drop (i + 1) (unpack count (now (rows .entry))))) ⌝ }
+        × (r ≡ lastLike (row (now (rows .entry)) i) (i + 1) i (drop (i + 1) (unpack count (now (rows .entry))))) ⌝ }
 {
     let mut best = i;
     let mut j = i + 1;
@@ -59,8 +58,7 @@ fn last_match(rows: &[u64], count: usize, i: usize) -> usize
 fn alike(rows: &[u64], count: usize, i: usize, j: usize) -> bool
     requires { ⌜ Sound (now rows) count ⌝ }
     requires { ⌜ (i < count) × (j < count) ⌝ }
-    ensures { λ r. ⌜ r
-        ≡ isMatch (row (now (rows .entry)) i .id) (time (row (now (rows .entry)) i)) (row (now (rows .entry)) j) ⌝ }
+    ensures { λ r. ⌜ r ≡ like (row (now (rows .entry)) i) (row (now (rows .entry)) j) ⌝ }
 {
     let a = i * ROW;
     let b = j * ROW;

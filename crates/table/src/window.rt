@@ -4,18 +4,15 @@ use crate::TimeWindow;
 use crate::search::below;
 use crate::search::up_to;
 ghost use mathlib.Core.Path.{_≡_};
-ghost use Prim.Native.Nat.{_≤_};
-ghost use lib.ListN.{length};
 ghost use Rattle.table.specs.Entries.{unpack};
 ghost use Rattle.table.specs.Order.{Sound};
-ghost use Rattle.table.specs.Windows.{EndsInRange, endOf, firstRow, inWindow, startOf};
+ghost use Rattle.table.specs.Windows.{EndsInRange, Retrieves, endOf, startOf};
 
 // The first row of the window and the number of its rows; row 0 where it has none.
 pub fn rows_in(rows: &[u64], count: usize, w: TimeWindow) -> Part
     requires { ⌜ Sound (now rows) count ⌝ }
     requires { ⌜ EndsInRange w ⌝ }
-    ensures { λ r. ⌜ (r .first ≡ firstRow w (unpack count (now (rows .entry))))
-        × (r .number ≡ length (inWindow w (unpack count (now (rows .entry))))) ⌝ }
+    ensures { λ r. ⌜ Retrieves w (now (rows .entry)) count (r .first) (r .number) ⌝ }
 {
     let a = start(rows, count, w);
     let b = end(rows, count, w);

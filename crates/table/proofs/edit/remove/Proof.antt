@@ -1,3 +1,5 @@
+-- `table::edit::remove` meets its contract.
+-- Assumes nothing.
 use Prim.Native.Nat.{_*_, _+_, _≤_}
 use Rattle.table.proofs.Rows.{removed}
 use Rattle.table.specs.Entries.{width}

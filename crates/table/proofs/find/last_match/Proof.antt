@@ -1,7 +1,9 @@
+-- `table::find::last_match` meets its contract. The loop's invariant: what is left goes on from the best so far.
+-- Assumes nothing.
 use Prim.Native.Nat.{_+_, _-_, _<_, _≤_, ℕ}
 use Rattle.table.proofs.Matches.{last-end, last-go}
 use Rattle.table.specs.Entries.{Entry, row, time, unpack}
-use Rattle.table.specs.Match.{lastMatch}
+use Rattle.table.specs.Match.{lastLike}
 use lib.ListN.{drop}
 use mathlib.Core.Bool.{cond}
 use mathlib.Core.Logic.{⊎-elim}
@@ -10,39 +12,18 @@ use native.Mathlib.Omega.{arith}
 use borrow.Author.Needs.{needs}
 use Rattle.table.proofs.find.last_match.Statement.{statement}
 use Rattle.table.proofs.find.last_match.Tie as tie
-use Rattle.table.proofs.find.last_match.Reads as reads
-use Rattle.table.proofs.find.last_match.Lts as lts
-use Rattle.table.proofs.find.alike.Reads as alike-reads
 
 abbrev Inv-loop : tie.InvT-loop
-Inv-loop rows count i best₀ j₀ best j = (j ≤ count) × (best < count) × (lastMatch (row rows i .id) (time (row rows i)) (i + 1) i (drop (i + 1) (unpack count rows)) ≡ lastMatch (row rows i .id) (time (row rows i)) j best (drop j (unpack count rows)))
+Inv-loop rows count i best₀ j₀ best j =
+    (j ≤ count) × (best < count)
+    × (lastLike (row rows i) (i + 1) i (drop (i + 1) (unpack count rows)) ≡ lastLike (row rows i) j best (drop j (unpack count rows)))
 
 abbrev μ-loop : tie.MeasureT-loop
 μ-loop rows count i best₀ j₀ best j = count - j
 
--- src/find.rt:48:17
-add-j : tie.Need-add-j Inv-loop μ-loop
-add-j c = search needs
-
--- src/find.rt:49:5
-loop-holds : tie.Need-loop-holds Inv-loop μ-loop
-loop-holds c = search needs
-
--- src/find.rt:50:12
-alike-requires : tie.Need-alike-requires Inv-loop μ-loop
-alike-requires c κs = search needs
-
--- src/find.rt:53:9
-add-j-2 : tie.Need-add-j-2 Inv-loop μ-loop
-add-j-2 c = search needs
-
--- src/find.rt:49:5
-loop-less : tie.Need-loop-less Inv-loop μ-loop
-loop-less c = search needs
-
--- src/find.rt:49:5
 loop-again : tie.Need-loop-again Inv-loop μ-loop
-loop-again c = let at-loop = c .before .before .before in
+loop-again c =
+    let at-loop = c .before .before .before in
     let a = at-loop .before .before .args in
     let j = at-loop .loop .j in
     let w = a .rows .now in
@@ -53,17 +34,18 @@ loop-again c = let at-loop = c .before .before .before in
       ⊎-elim (λ x. omega arith) (λ x. omega arith) (c .if1 .came),
       at-loop .loop .inv .2
           ∙ last-go (e .id) (time e) j (at-loop .loop .best) (a .count) w j (c .before .alike .result) (omega arith) (c .before .alike .ensures)
-          ∙ ap (λ (x : ℕ). lastMatch (e .id) (time e) (j + 1) x (drop (j + 1) (unpack (a .count) w))) b,
+          ∙ ap (λ (x : ℕ). lastLike e (j + 1) x (drop (j + 1) (unpack (a .count) w))) b,
     )
 
--- src/find.rt:40:1
 returns : tie.Need-returns Inv-loop μ-loop
-returns c = let at-loop = c .before in
+returns c =
+    let at-loop = c .before in
     let a = at-loop .before .before .args in
     let e : Entry = row (a .rows .now) (a .i) in
-    (omega arith, sym (at-loop .loop .inv .2 ∙ last-end (e .id) (time e) (at-loop .loop .j) (at-loop .loop .best) (a .count) (a .rows .now) (at-loop .loop .j) (omega arith)))
+    let s = at-loop .loop in
+    (omega arith, sym (s .inv .2 ∙ last-end (e .id) (time e) (s .j) (s .best) (a .count) (a .rows .now) (s .j) (omega arith)))
 
 pub last-match-spec : {M : Type 1} → statement M
 last-match-spec =
     tie.close
-    (tie.spec Inv-loop μ-loop add-j loop-holds alike-requires add-j-2 loop-less loop-again returns)
+    (tie.spec Inv-loop μ-loop (λ c. search needs) (λ c. search needs) (λ c κs. search needs) (λ c. search needs) (λ c. search needs) loop-again returns)

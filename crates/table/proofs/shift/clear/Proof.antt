@@ -1,3 +1,5 @@
+-- `table::shift::clear` meets its contract. The loop's invariant: as many words are zero as were passed.
+-- Assumes nothing.
 use Prim.Native.Nat.{_-_, _≤_}
 use Rattle.table.proofs.Words.{clear-start, clear-step}
 use Rattle.table.specs.Shift.{cleared}
