@@ -1,3 +1,4 @@
+-- `store::buffers_ok` meets its contract.
 use Rattle.rules.specs.Tests.{allOf}
 use Rattle.store.proofs.Layouts.{setup-few}
 use Rattle.store.specs.Judge.{buffersOk}

@@ -1,3 +1,4 @@
+-- `store::bytes::copy_in` meets its contract.
 use Prim.Native.Nat.{_-_, _≤_, ℕ}
 use Rattle.store.proofs.Lists.{front-end, front-more}
 use Rattle.store.proofs.Packets.{packet}

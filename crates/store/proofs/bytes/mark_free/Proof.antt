@@ -1,3 +1,4 @@
+-- `store::bytes::mark_free` meets its contract.
 use Prim.Native.Nat.{_-_, _≤_, ℕ}
 use Rattle.store.proofs.Lists.{fill-end}
 use Rattle.store.specs.Limits.{storeFree}

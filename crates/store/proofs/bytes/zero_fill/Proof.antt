@@ -1,3 +1,4 @@
+-- `store::bytes::zero_fill` meets its contract.
 use Prim.Native.Nat.{_-_, _≤_, ℕ}
 use Rattle.store.proofs.Lists.{fill-end}
 use Rattle.store.specs.View.{part}

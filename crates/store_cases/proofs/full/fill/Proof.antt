@@ -1,3 +1,4 @@
+-- `store_cases::full::fill` meets its contract.
 use Prim.Native.Nat.{_-_, _≤_}
 use lib.ListN.{length}
 use mathlib.Core.Path.{_≡_}

@@ -1,3 +1,4 @@
+-- `store_cases::show::bytes` meets its contract.
 use Prim.Native.Nat.{_-_, _≤_}
 use Rattle.store.specs.View.{part}
 use borrow.Author.Needs.{needs}

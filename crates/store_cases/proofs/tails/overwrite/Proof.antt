@@ -1,3 +1,4 @@
+-- `store_cases::tails::overwrite` meets its contract.
 use Prim.Native.Nat.{_-_, _≤_}
 use Rattle.store.specs.View.{part}
 use lib.ListN.{length, length-set}
