@@ -66,11 +66,13 @@ sound-by su st le v j q =
     record { setup = h .0; buffers = h .1; lengths = h .2 }
 
 -- refused: what the whole call comes to
-pub judging-refused : {A : Type 0} (su : Setup) (st le : List ℕ) (call : List Pool → Outcome A) (v : Verdict) (e : StoreRefusal) → Judges su (length st) le v → v ≡ Ve.Refused e → judging su st le call ≡ refused (paper e)
+pub judging-refused : {A : Type 0} (su : Setup) (st le : List ℕ) (call : List Pool → Outcome A) (v : Verdict) (e : StoreRefusal)
+    → Judges su (length st) le v → v ≡ Ve.Refused e → judging su st le call ≡ refused (paper e)
 unfolding judged judging column verdictPaper
 judging-refused su st le call v e j q =
     one-failed (setupOk su) (buffersOk su (length st) (length le)) (lensOk su le) (call (view su st le)) e (ap verdictPaper (sym q) ∙ j)
 
-pub judging-fine : {A : Type 0} (su : Setup) (st le : List ℕ) (call : List Pool → Outcome A) → Sound su st le → judging su st le call ≡ call (view su st le)
+pub judging-fine : {A : Type 0} (su : Setup) (st le : List ℕ) (call : List Pool → Outcome A) → Sound su st le
+    → judging su st le call ≡ call (view su st le)
 unfolding judged judging unless
 judging-fine su st le call s = rw (s .setup, s .buffers, s .lengths)

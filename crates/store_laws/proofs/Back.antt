@@ -3,14 +3,12 @@ use Prim.Native.Nat.{ℕ}
 use Rattle.rules.specs.Papers.{Paper}
 use Rattle.store.proofs.Numbers.{numbered}
 use Rattle.store.specs.Refusals.{addedPaper, deletedPaper, lengthPaper, paper, presencePaper, startedPaper, verdictPaper}
-use denote.Laws.{Is}
 use lib.Dec.{eqb}
 use lib.ListN.{getD}
 use mathlib.Core.Bool.{cond, false, true}
 use mathlib.Core.Path.{_≡_, refl}
 use Rattle.store.specs.declared.StoreRefusal.{StoreRefusal}
 use Rattle.store.specs.declared.StoreRefusal.the-variants.{BadSetup, BadBuffers, StateDamaged, DataTooLarge, StoreFull, InvalidStoreId, DataDoesNotExist, BufferTooSmall}
-use Rattle.store.specs.declared.StoreIdError.{StoreIdError}
 use Rattle.store.specs.declared.StoreIdError.the-variants.{InvalidSubpool, InvalidPacketIdx}
 use Rattle.store.specs.declared.Deleted.{Deleted}
 use Rattle.store.specs.declared.Deleted.the-variants as D

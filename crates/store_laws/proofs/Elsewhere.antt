@@ -81,7 +81,8 @@ placed-keeps ps d (allTaken m) w k i n b h = h
 placed-keeps ps d (into m j) w k i n b h = slot-else (fill d) ps k i m j (not-chosen ps k i m j n b h (w .0)) ∙ h
 
 -- the slot that an answered addition names is the one that it chose
-pub named : (ps : List Pool) (d : List ℕ) (x : Choice) (a : ℕ) → says (place ps d x) ≡ no 0 (a ∷ []) → (m : ℕ) × (j : ℕ) × (x ≡ into m j) × (a ≡ addressOf m j)
+pub named : (ps : List Pool) (d : List ℕ) (x : Choice) (a : ℕ) → says (place ps d x) ≡ no 0 (a ∷ [])
+    → (m : ℕ) × (j : ℕ) × (x ≡ into m j) × (a ≡ addressOf m j)
 unfolding place says
 named ps d tooLarge a q = let z : _≡_ {A = ℕ} 11 0 = ap (λ (p : Paper). p .number) q in absurd (omega arith)
 named ps d (allTaken k) a q = let z : _≡_ {A = ℕ} 12 0 = ap (λ (p : Paper). p .number) q in absurd (omega arith)

@@ -24,14 +24,16 @@ use Rattle.store.specs.declared.Setup.{Setup}
 unfoldable pub Kept : List Pool → ℕ → List ℕ → Type 0
 Kept ps a d = (raw : List ℕ) × (theSlot ps (poolOf a) (slotOf a) ≡ some (taken (length d) raw)) × (take (length d) raw ≡ d)
 
-step-keeps : (spill : Bool) (ps : List Pool) (r : StoreRequest) (a n : ℕ) (b : List ℕ) → Spares a r → theSlot ps (poolOf a) (slotOf a) ≡ some (taken n b)
+step-keeps : (spill : Bool) (ps : List Pool) (r : StoreRequest) (a n : ℕ) (b : List ℕ) → Spares a r
+    → theSlot ps (poolOf a) (slotOf a) ≡ some (taken n b)
     → theSlot (step spill ps r) (poolOf a) (slotOf a) ≡ some (taken n b)
 unfolding step
 step-keeps spill ps (adds d) a n b o h = add-keeps spill ps d (poolOf a) (slotOf a) n b h
 step-keeps spill ps (deletes c) a n b o h = delete-others ps c (poolOf a) (slotOf a) o ∙ h
 step-keeps spill ps (rewrites c d) a n b o h = rewrite-others ps c d (poolOf a) (slotOf a) o ∙ h
 
-pub run-keeps : (spill : Bool) (ps : List Pool) (rs : List StoreRequest) (a n : ℕ) (b : List ℕ) → AllSpare a rs → theSlot ps (poolOf a) (slotOf a) ≡ some (taken n b)
+pub run-keeps : (spill : Bool) (ps : List Pool) (rs : List StoreRequest) (a n : ℕ) (b : List ℕ) → AllSpare a rs
+    → theSlot ps (poolOf a) (slotOf a) ≡ some (taken n b)
     → theSlot (run spill ps rs) (poolOf a) (slotOf a) ≡ some (taken n b)
 unfolding run
 run-keeps spill ps [] a n b o h = h
@@ -44,11 +46,13 @@ placed ps d tooLarge a qs q = let z : _≡_ {A = ℕ} 0 1 = cc in absurd (omega 
 placed ps d (allTaken k) a qs q = let z : _≡_ {A = ℕ} 0 1 = cc in absurd (omega arith)
 placed ps d (into k i) a qs q = (k, i, refl, cc, cc)
 
-found-there : (qs es : List Pool) (a k i : ℕ) (x : Option Slot) → a ≡ addressOf k i → qs ≡ es → poolOf (addressOf k i) ≡ k → slotOf (addressOf k i) ≡ i → theSlot es k i ≡ x → theSlot qs (poolOf a) (slotOf a) ≡ x
+found-there : (qs es : List Pool) (a k i : ℕ) (x : Option Slot) → a ≡ addressOf k i → qs ≡ es → poolOf (addressOf k i) ≡ k
+    → slotOf (addressOf k i) ≡ i → theSlot es k i ≡ x → theSlot qs (poolOf a) (slotOf a) ≡ x
 found-there qs es a k i x p e m n f = rw (p, e, m, n) f
 
 -- what an answered addition leaves at its address
-pub added : (su : Setup) (st le : List ℕ) → Sound su st le → (d : List ℕ) (a : ℕ) (qs : List Pool) → addIn (su .spill) (view su st le) d ≡ done (a ∷ []) qs → Kept qs a d × (addressOf (poolOf a) (slotOf a) ≡ a)
+pub added : (su : Setup) (st le : List ℕ) → Sound su st le → (d : List ℕ) (a : ℕ) (qs : List Pool)
+    → addIn (su .spill) (view su st le) d ≡ done (a ∷ []) qs → Kept qs a d × (addressOf (poolOf a) (slotOf a) ≡ a)
 unfolding addIn Kept over
 added su st le s d a qs q =
     let p = placed (view su st le) d _ a qs q in
