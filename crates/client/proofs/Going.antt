@@ -21,9 +21,6 @@ use native.Mathlib.Omega.{arith}
 use Rattle.store.specs.declared.Setup.{Setup}
 use Rattle.store.specs.declared.Deleted.{Deleted}
 use Rattle.store.specs.declared.Deleted.the-variants as D
-use Rattle.store.specs.declared.StoreRefusal.{StoreRefusal}
-use Rattle.store.specs.declared.StoreRefusal.the-variants.{BadSetup, BadBuffers, StateDamaged, DataTooLarge, StoreFull, InvalidStoreId, DataDoesNotExist, BufferTooSmall}
-use Rattle.store.specs.declared.StoreIdError.the-variants.{InvalidSubpool, InvalidPacketIdx}
 
 pub record Going (su : Setup) (st₀ le₀ addrs st le : List ℕ) (gone i : ℕ) : Type 0 where
   pub at-most : i ≤ length addrs
@@ -41,7 +38,8 @@ pub count-is : (ps : List Pool) (a : ℕ) (r : Deleted) → deletedPaper r ≡ s
 unfolding deletedPaper deleteIn one after says ifHeld ifNamed
 count-is ps a r q = go (find ps a) r q
   where
-    go : (x : Found) (r : Deleted) → deletedPaper r ≡ says (ifHeld a x (λ n b. done [] (edit wipe ps a))) → oneIfDone r ≡ after (ifHeld a x (λ n b. done [] (edit wipe ps a))) 0 (λ qs. 1)
+    go : (x : Found) (r : Deleted) → deletedPaper r ≡ says (ifHeld a x (λ n b. done [] (edit wipe ps a)))
+        → oneIfDone r ≡ after (ifHeld a x (λ n b. done [] (edit wipe ps a))) 0 (λ qs. 1)
     go noPool D.Done q = let z : _≡_ {A = ℕ} 0 16 = ap (λ (p : Paper). p .number) q in absurd (omega arith)
     go noSlot D.Done q = let z : _≡_ {A = ℕ} 0 17 = ap (λ (p : Paper). p .number) q in absurd (omega arith)
     go vacant D.Done q = let z : _≡_ {A = ℕ} 0 18 = ap (λ (p : Paper). p .number) q in absurd (omega arith)
@@ -51,7 +49,8 @@ count-is ps a r q = go (find ps a) r q
     go vacant (D.Refused e) q = refl
     go (held n b) (D.Refused e) q = absurd (not-done e [] q)
 
-pub going-next : (su : Setup) (st₀ le₀ addrs st le : List ℕ) (gone i : ℕ) → Going su st₀ le₀ addrs st le gone i → i < length addrs → (r : Deleted) (o : ℕ) (st′ le′ : List ℕ)
+pub going-next : (su : Setup) (st₀ le₀ addrs st le : List ℕ) (gone i : ℕ) → Going su st₀ le₀ addrs st le gone i → i < length addrs
+    → (r : Deleted) (o : ℕ) (st′ le′ : List ℕ)
     → Does su st le (λ ps. deleteIn ps (getD addrs i 0)) (deletedPaper r) st′ le′ → o ≡ oneIfDone r → o ≤ 1 → Going su st₀ le₀ addrs st′ le′ (gone + o) (i + 1)
 unfolding withoutAll countAll
 going-next su st₀ le₀ addrs st le gone i g l r o st′ le′ d e f =
@@ -69,7 +68,8 @@ going-next su st₀ le₀ addrs st le gone i g l r o st′ le′ d e f =
       counts = omega arith;
     }
 
-pub going-last : (su : Setup) (st₀ le₀ addrs st le : List ℕ) (gone i : ℕ) → Going su st₀ le₀ addrs st le gone i → length addrs ≤ i → Does su st₀ le₀ (sweepIn addrs) (no 0 (gone ∷ [])) st le
+pub going-last : (su : Setup) (st₀ le₀ addrs st le : List ℕ) (gone i : ℕ) → Going su st₀ le₀ addrs st le gone i → length addrs ≤ i
+    → Does su st₀ le₀ (sweepIn addrs) (no 0 (gone ∷ [])) st le
 unfolding withoutAll countAll sweepIn says after
 going-last su st₀ le₀ addrs st le gone i g l =
     let x : drop i addrs ≡ [] = drop-of-length-le addrs l in

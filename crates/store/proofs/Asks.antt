@@ -17,7 +17,6 @@ use Rattle.store.specs.Promise.{Finds, Lends, Reads, foundAs, startOf}
 use Rattle.store.specs.Refusals.{lengthPaper, paper, presencePaper}
 use Rattle.store.specs.View.{bytesAt, part, view}
 use borrow.Author.Tests.{le-leb, lt-leb, ltb-false, ltb-true}
-use denote.Laws.{Is}
 use lib.Dec.{ltb}
 use lib.ListN.{getD, length, take}
 use lib.Seq.{take-take}
@@ -37,7 +36,6 @@ use Rattle.store.specs.declared.Verdict.{Verdict}
 use Rattle.store.specs.declared.Verdict.the-variants as Ve
 use Rattle.store.specs.declared.Whereabouts.{Whereabouts}
 use Rattle.store.specs.declared.Whereabouts.the-variants as Wh
-use Rattle.store.specs.declared.Length.{Length}
 use Rattle.store.specs.declared.Length.the-variants as Le
 use Rattle.store.specs.declared.Presence.the-variants as Pr
 
@@ -50,10 +48,12 @@ module _ {A : Type 0} (su : Setup) (st le : List ℕ) (call : List Pool → Outc
   unfolding says
   asks-refused v e j q = rw (judging-refused su st le call v e j q)
 
-pub reads-fine : (su : Setup) (st le : List ℕ) (call : List Pool → Outcome (List ℕ)) (buf : List ℕ) (p : Paper) (buf′ : List ℕ) → Sound su st le → Reads (call (view su st le)) buf p buf′ → Reads (judging su st le call) buf p buf′
+pub reads-fine : (su : Setup) (st le : List ℕ) (call : List Pool → Outcome (List ℕ)) (buf : List ℕ) (p : Paper) (buf′ : List ℕ) → Sound su st le
+    → Reads (call (view su st le)) buf p buf′ → Reads (judging su st le call) buf p buf′
 reads-fine su st le call buf p buf′ s r = rw (judging-fine su st le call s) r
 
-pub reads-refused : (su : Setup) (st le : List ℕ) (call : List Pool → Outcome (List ℕ)) (buf : List ℕ) (v : Verdict) (e : StoreRefusal) → Judges su (length st) le v → v ≡ Ve.Refused e → Reads (judging su st le call) buf (paper e) buf
+pub reads-refused : (su : Setup) (st le : List ℕ) (call : List Pool → Outcome (List ℕ)) (buf : List ℕ) (v : Verdict) (e : StoreRefusal)
+    → Judges su (length st) le v → v ≡ Ve.Refused e → Reads (judging su st le call) buf (paper e) buf
 unfolding says after
 reads-refused su st le call buf v e j q = rw (judging-refused su st le call v e j q) (record { answer = refl; buffer = refl })
 
@@ -74,7 +74,8 @@ module _ (su : Setup) (st le : List ℕ) (a : ℕ) where
         inside = (ap (λ (x : Cell). x .from) (k .is), omega arith, omega arith);
       }
 
-held-by : (a n : ℕ) (l : List ℕ) (x : Found) → done (n ∷ []) l ≡ ifHeld a x (λ m b. done (m ∷ []) (take m b)) → (raw : List ℕ) × (x ≡ held n raw) × (take n raw ≡ l)
+held-by : (a n : ℕ) (l : List ℕ) (x : Found) → done (n ∷ []) l ≡ ifHeld a x (λ m b. done (m ∷ []) (take m b))
+    → (raw : List ℕ) × (x ≡ held n raw) × (take n raw ≡ l)
 unfolding ifHeld ifNamed
 held-by a n l noPool q = let z : _≡_ {A = ℕ} 0 1 = cc in absurd (omega arith)
 held-by a n l noSlot q = let z : _≡_ {A = ℕ} 0 1 = cc in absurd (omega arith)
@@ -84,7 +85,8 @@ held-by a n l (held m b) q =
     let f : take m b ≡ l = cc in
     (b, ap (λ (k : ℕ). held k b) e, ap (λ (k : ℕ). take k b) (sym e) ∙ f)
 
-refused-by : {A : Type 0} (a : ℕ) (p : Paper) (x : Found) (f : ℕ → List ℕ → Outcome A) → refused p ≡ ifHeld a x (λ m b. done (m ∷ []) (take m b)) → ifHeld a x f ≡ refused p
+refused-by : {A : Type 0} (a : ℕ) (p : Paper) (x : Found) (f : ℕ → List ℕ → Outcome A) → refused p ≡ ifHeld a x (λ m b. done (m ∷ []) (take m b))
+    → ifHeld a x f ≡ refused p
 unfolding ifHeld ifNamed
 refused-by a p noPool f q = let e : p ≡ no 16 (poolOf a ∷ []) = cc in ap refused (sym e)
 refused-by a p noSlot f q = let e : p ≡ no 17 (slotOf a ∷ []) = cc in ap refused (sym e)
@@ -92,35 +94,41 @@ refused-by a p vacant f q = let e : p ≡ no 18 (addressOf (poolOf a) (slotOf a)
 refused-by a p (held m b) f q = let z : _≡_ {A = ℕ} 0 1 = cc in absurd (omega arith)
 
 module _ (su : Setup) (st le : List ℕ) (a : ℕ) where
-  pub found-held-at : (s : Span) → Finds su st le a (Wh.At s) → (raw : List ℕ) × (find (view su st le) a ≡ held (s .len) raw) × (take (s .len) raw ≡ part (s .from) (s .len) st)
+  pub found-held-at : (s : Span) → Finds su st le a (Wh.At s)
+      → (raw : List ℕ) × (find (view su st le) a ≡ held (s .len) raw) × (take (s .len) raw ≡ part (s .from) (s .len) st)
   unfolding foundAs packetIn
   found-held-at s f = held-by a (s .len) _ _ (f .same)
 
   -- read
   module _ (buf : List ℕ) where
-    pub read-refused : (r : Whereabouts) (e : StoreRefusal) → Finds su st le a r → r ≡ Wh.Refused e → Reads (readIn (view su st le) a buf) buf (lengthPaper (Le.Refused e)) buf
+    pub read-refused : (r : Whereabouts) (e : StoreRefusal) → Finds su st le a r → r ≡ Wh.Refused e
+        → Reads (readIn (view su st le) a buf) buf (lengthPaper (Le.Refused e)) buf
     unfolding readIn packetIn foundAs lengthPaper says after
     read-refused r e f q =
         let g = subst (λ (x : Whereabouts). Finds su st le a x) q f in
         rw (refused-by a (paper e) (find (view su st le) a) _ (g .same)) (record { answer = refl; buffer = refl })
 
-    pub read-small : (r : Whereabouts) (s : Span) → Finds su st le a r → r ≡ Wh.At s → length buf < s .len → Reads (readIn (view su st le) a buf) buf (lengthPaper (Le.Refused (BufferTooSmall (length buf) (s .len)))) buf
+    pub read-small : (r : Whereabouts) (s : Span) → Finds su st le a r → r ≡ Wh.At s → length buf < s .len
+        → Reads (readIn (view su st le) a buf) buf (lengthPaper (Le.Refused (BufferTooSmall (length buf) (s .len)))) buf
     unfolding readIn ifHeld ifNamed lengthPaper paper says after unless
     read-small r s f q l =
         let h = found-held-at s (subst (λ (x : Whereabouts). Finds su st le a x) q f) in
         rw (h .1, lt-leb _ _ l) (record { answer = refl; buffer = refl })
 
-    pub read-at : (r : Whereabouts) (s : Span) → Finds su st le a r → r ≡ Wh.At s → s .len ≤ length buf → (buf′ : List ℕ) → buf′ ≡ over (part (s .from) (s .len) st) buf → Reads (readIn (view su st le) a buf) buf (lengthPaper (Le.Of (s .len))) buf′
+    pub read-at : (r : Whereabouts) (s : Span) → Finds su st le a r → r ≡ Wh.At s → s .len ≤ length buf → (buf′ : List ℕ)
+        → buf′ ≡ over (part (s .from) (s .len) st) buf → Reads (readIn (view su st le) a buf) buf (lengthPaper (Le.Of (s .len))) buf′
     unfolding readIn ifHeld ifNamed lengthPaper says after unless
     read-at r s f q l buf′ e =
         let h = found-held-at s (subst (λ (x : Whereabouts). Finds su st le a x) q f) in
         rw (h .1, le-leb _ _ l) (record { answer = refl; buffer = e ∙ ap (λ (x : List ℕ). over x buf) (sym (h .2)) })
 
-  pub span-inside : (r : Whereabouts) (s : Span) → Finds su st le a r → r ≡ Wh.At s → (s .from ≡ startOf su a) × (s .from + s .len ≤ length st) × (s .len ≤ maxSlotSize)
+  pub span-inside : (r : Whereabouts) (s : Span) → Finds su st le a r → r ≡ Wh.At s
+      → (s .from ≡ startOf su a) × (s .from + s .len ≤ length st) × (s .len ≤ maxSlotSize)
   span-inside r s f q = (subst (λ (x : Whereabouts). Finds su st le a x) q f) .inside
 
   -- modify
-  pub modify-refused : (r : Whereabouts) (e : StoreRefusal) → Finds su st le a r → r ≡ Wh.Refused e → lengthPaper (Le.Refused e) ≡ says (packetIn (view su st le) a)
+  pub modify-refused : (r : Whereabouts) (e : StoreRefusal) → Finds su st le a r → r ≡ Wh.Refused e
+      → lengthPaper (Le.Refused e) ≡ says (packetIn (view su st le) a)
   unfolding foundAs lengthPaper says
   modify-refused r e f q = let g = subst (λ (x : Whereabouts). Finds su st le a x) q f in rw (← (g .same))
 
@@ -158,15 +166,18 @@ clash : (c : Cell) (e : StoreRefusal) → Sp.At c ≡ Sp.Refused e → _≡_ {A 
 clash c e q = cc
 
 module _ (su : Setup) (st le : List ℕ) (a k s : ℕ) (p : k ≡ poolOf a) (q : s ≡ slotOf a) where
-  invalid-cases : (e : StoreRefusal) → validated su k s ≡ Sp.Refused e → ((find (view su st le) a ≡ noPool) × (paper e ≡ no 16 (poolOf a ∷ []))) ⊎ ((find (view su st le) a ≡ noSlot) × (paper e ≡ no 17 (slotOf a ∷ [])))
+  invalid-cases : (e : StoreRefusal) → validated su k s ≡ Sp.Refused e
+      → ((find (view su st le) a ≡ noPool) × (paper e ≡ no 16 (poolOf a ∷ []))) ⊎ ((find (view su st le) a ≡ noSlot) × (paper e ≡ no 17 (slotOf a ∷ [])))
   unfolding paper spot-paper
   invalid-cases e v = go (ltb (poolOf a) (su .pools)) refl
     where
-      in-pool : (b : Bool) → ltb (slotOf a) (slotsAt su (poolOf a)) ≡ b → poolOf a < su .pools → ((find (view su st le) a ≡ noPool) × (paper e ≡ no 16 (poolOf a ∷ []))) ⊎ ((find (view su st le) a ≡ noSlot) × (paper e ≡ no 17 (slotOf a ∷ [])))
+      in-pool : (b : Bool) → ltb (slotOf a) (slotsAt su (poolOf a)) ≡ b → poolOf a < su .pools
+          → ((find (view su st le) a ≡ noPool) × (paper e ≡ no 16 (poolOf a ∷ []))) ⊎ ((find (view su st le) a ≡ noSlot) × (paper e ≡ no 17 (slotOf a ∷ [])))
       in-pool true t l = let z : _≡_ {A = ℕ} 0 1 = clash _ _ (valid-yes su _ _ l (ltb-true _ _ t) ∙ ap₂ (validated su) (sym p) (sym q) ∙ v) in absurd (omega arith)
       in-pool false t l = inr (find-no-slot su st le (poolOf a) (slotOf a) l (ltb-false _ _ t), ap spot-paper (sym (valid-slot su _ _ l (ltb-false _ _ t) ∙ ap₂ (validated su) (sym p) (sym q) ∙ v)))
 
-      go : (b : Bool) → ltb (poolOf a) (su .pools) ≡ b → ((find (view su st le) a ≡ noPool) × (paper e ≡ no 16 (poolOf a ∷ []))) ⊎ ((find (view su st le) a ≡ noSlot) × (paper e ≡ no 17 (slotOf a ∷ [])))
+      go : (b : Bool) → ltb (poolOf a) (su .pools) ≡ b
+          → ((find (view su st le) a ≡ noPool) × (paper e ≡ no 16 (poolOf a ∷ []))) ⊎ ((find (view su st le) a ≡ noSlot) × (paper e ≡ no 17 (slotOf a ∷ [])))
       go true t = in-pool (ltb (slotOf a) (slotsAt su (poolOf a))) refl (ltb-true _ _ t)
       go false t = inl (find-no-pool su st le (poolOf a) (slotOf a) (ltb-false _ _ t), ap spot-paper (sym (valid-pool su _ (slotOf a) (ltb-false _ _ t) ∙ ap₂ (validated su) (sym p) (sym q) ∙ v)))
 
@@ -176,7 +187,8 @@ module _ (su : Setup) (st le : List ℕ) (a k s : ℕ) (p : k ≡ poolOf a) (q :
   here-vacant : (c : Cell) → validated su k s ≡ Sp.At c → getD le (c .row) 0 ≡ storeFree → find (view su st le) a ≡ vacant
   here-vacant c v e = let i = here c v in find-vacant su st le (poolOf a) (slotOf a) (i .0) (i .1) (ap (λ (x : Cell). getD le (x .row) 0) (sym (i .2)) ∙ e)
 
-  here-held : (c : Cell) → validated su k s ≡ Sp.At c → (getD le (c .row) 0 ≡ storeFree → ⊥) → find (view su st le) a ≡ held (getD le (c .row) 0) (bytesAt su st (poolOf a) (slotOf a))
+  here-held : (c : Cell) → validated su k s ≡ Sp.At c → (getD le (c .row) 0 ≡ storeFree → ⊥)
+      → find (view su st le) a ≡ held (getD le (c .row) 0) (bytesAt su st (poolOf a) (slotOf a))
   here-held c v e =
       let i = here c v in
       find-held su st le (poolOf a) (slotOf a) (i .0) (i .1) (λ g. e (ap (λ (x : Cell). getD le (x .row) 0) (i .2) ∙ g)) ∙ ap (λ (x : Cell). held (getD le (x .row) 0) (bytesAt su st (poolOf a) (slotOf a))) (sym (i .2))
@@ -185,11 +197,13 @@ module _ (su : Setup) (st le : List ℕ) (a k s : ℕ) (p : k ≡ poolOf a) (q :
   unfolding hasIn ifNamed says presencePaper
   has-refused e v = ⊎-elim (λ h. rw (h .0) (h .1)) (λ h. rw (h .0) (h .1)) (invalid-cases e v)
 
-  pub has-vacant : (c : Cell) → validated su k s ≡ Sp.At c → getD le (c .row) 0 ≡ storeFree → presencePaper (Pr.Is false) ≡ says (hasIn (view su st le) a)
+  pub has-vacant : (c : Cell) → validated su k s ≡ Sp.At c → getD le (c .row) 0 ≡ storeFree
+      → presencePaper (Pr.Is false) ≡ says (hasIn (view su st le) a)
   unfolding hasIn ifNamed says presencePaper
   has-vacant c v e = rw (here-vacant c v e)
 
-  pub has-held : (c : Cell) → validated su k s ≡ Sp.At c → (getD le (c .row) 0 ≡ storeFree → ⊥) → presencePaper (Pr.Is true) ≡ says (hasIn (view su st le) a)
+  pub has-held : (c : Cell) → validated su k s ≡ Sp.At c → (getD le (c .row) 0 ≡ storeFree → ⊥)
+      → presencePaper (Pr.Is true) ≡ says (hasIn (view su st le) a)
   unfolding hasIn ifNamed says presencePaper
   has-held c v e = rw (here-held c v e)
 
@@ -201,6 +215,7 @@ module _ (su : Setup) (st le : List ℕ) (a k s : ℕ) (p : k ≡ poolOf a) (q :
   unfolding lenIn ifNamed says lengthPaper
   len-vacant c v e = rw (here-vacant c v e)
 
-  pub len-held : (c : Cell) → validated su k s ≡ Sp.At c → (getD le (c .row) 0 ≡ storeFree → ⊥) → (n : ℕ) → n ≡ getD le (c .row) 0 → lengthPaper (Le.Of n) ≡ says (lenIn (view su st le) a)
+  pub len-held : (c : Cell) → validated su k s ≡ Sp.At c → (getD le (c .row) 0 ≡ storeFree → ⊥) → (n : ℕ) → n ≡ getD le (c .row) 0
+      → lengthPaper (Le.Of n) ≡ says (lenIn (view su st le) a)
   unfolding lenIn ifNamed says lengthPaper
   len-held c v e n f = rw (here-held c v e, f)

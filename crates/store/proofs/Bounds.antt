@@ -25,7 +25,8 @@ pub record Bounds (su : Setup) (room : ℕ) (lens : List ℕ) : Type 0 where
   pub few-bytes : bytesBefore su (su .pools) ≤ maxStoreBytes
   pub bytes-fit : bytesBefore su (su .pools) ≤ room
   pub rows-fit : rowsBefore su (su .pools) ≤ length lens
-  pub rows : (k s : ℕ) → k < su .pools → s < slotsAt su k → (getD lens (rowsBefore su k + s) 0 ≡ storeFree) ⊎ (getD lens (rowsBefore su k + s) 0 ≤ sizeAt su k)
+  pub rows : (k s : ℕ) → k < su .pools → s < slotsAt su k
+      → (getD lens (rowsBefore su k + s) 0 ≡ storeFree) ⊎ (getD lens (rowsBefore su k + s) 0 ≤ sizeAt su k)
 
 or-cases : (size n : ℕ) → lenOk size n ≡ true → (n ≡ storeFree) ⊎ (n ≤ size)
 or-cases size n = go (eqb n storeFree) refl

@@ -66,7 +66,8 @@ module _ (f : ℕ → Pool) (len : ℕ) where
   Passed : Bool → ℕ → Type 0
   Passed sp s = (leb len (f s .size) ≡ false) ⊎ ((sp ≡ true) × (lowest (f s .slots) ≡ none))
 
-  pass : (sp : Bool) (s : ℕ) (r : Choice) (j i : ℕ) → Passed sp s → r ≡ into j i → pick sp (leb len (f s .size)) (lowest (f s .slots)) (shift r) ≡ into (suc j) i
+  pass : (sp : Bool) (s : ℕ) (r : Choice) (j i : ℕ) → Passed sp s → r ≡ into j i
+      → pick sp (leb len (f s .size)) (lowest (f s .slots)) (shift r) ≡ into (suc j) i
   unfolding Passed
   pass sp s r j i (inl e) q = rw (e, q)
   pass sp s r j i (inr e) q = rw (e .0, e .1, q) (go (leb len (f s .size)))
@@ -75,7 +76,8 @@ module _ (f : ℕ → Pool) (len : ℕ) where
       go true = refl
       go false = refl
 
-  choose-into : (sp : Bool) (n k j t i : ℕ) → k + j ≡ t → j < n → leb len (f t .size) ≡ true → lowest (f t .slots) ≡ some i → ((s : ℕ) → k ≤ s → s < t → Passed sp s) → choose sp (each f k n) len ≡ into j i
+  choose-into : (sp : Bool) (n k j t i : ℕ) → k + j ≡ t → j < n → leb len (f t .size) ≡ true → lowest (f t .slots) ≡ some i
+      → ((s : ℕ) → k ≤ s → s < t → Passed sp s) → choose sp (each f k n) len ≡ into j i
   unfolding each choose
   choose-into sp zero k j t i e l h o g = absurd (not-suc-le-zero l)
   choose-into sp (suc n) k zero t i e l h o g = let q : t ≡ k = omega arith in rw (rw q at h, rw q at o)
@@ -87,14 +89,16 @@ module _ (f : ℕ → Pool) (len : ℕ) where
   choose-large sp zero k g = refl
   choose-large sp (suc n) k g = rw (g k (omega arith) (omega arith), choose-large sp n (suc k) (λ s a b. g s (omega arith) (omega arith)))
 
-  choose-one : (n k j t : ℕ) → k + j ≡ t → j < n → leb len (f t .size) ≡ true → lowest (f t .slots) ≡ none → ((s : ℕ) → k ≤ s → s < t → leb len (f s .size) ≡ false) → choose false (each f k n) len ≡ allTaken j
+  choose-one : (n k j t : ℕ) → k + j ≡ t → j < n → leb len (f t .size) ≡ true → lowest (f t .slots) ≡ none
+      → ((s : ℕ) → k ≤ s → s < t → leb len (f s .size) ≡ false) → choose false (each f k n) len ≡ allTaken j
   unfolding each choose
   choose-one zero k j t e l h o g = absurd (not-suc-le-zero l)
   choose-one (suc n) k zero t e l h o g = let q : t ≡ k = omega arith in rw (rw q at h, rw q at o)
   choose-one (suc n) k (suc j) t e l h o g =
       rw (g k (omega arith) (omega arith), choose-one n (suc k) j t (omega arith) (omega arith) h o (λ s a b. g s (omega arith) b))
 
-  choose-all : (n k : ℕ) → ((s : ℕ) → k ≤ s → s < k + suc n → (leb len (f s .size) ≡ true) × (lowest (f s .slots) ≡ none)) → choose true (each f k (suc n)) len ≡ allTaken n
+  choose-all : (n k : ℕ) → ((s : ℕ) → k ≤ s → s < k + suc n → (leb len (f s .size) ≡ true) × (lowest (f s .slots) ≡ none))
+      → choose true (each f k (suc n)) len ≡ allTaken n
   unfolding each choose
   choose-all zero k g = let h = g k (omega arith) (omega arith) in rw (h .0, h .1)
   choose-all (suc n) k g =
@@ -102,11 +106,13 @@ module _ (f : ℕ → Pool) (len : ℕ) where
       let r = choose-all n (suc k) (λ s a b. g s (omega arith) (omega arith)) in
       rw (h .0, h .1) (ap (λ (x : Choice). spillInto true (shift x)) r)
 
-  past : (k n m : ℕ) → leb len (f k .size) ≡ false → choose true (each f (suc k) n) len ≡ allTaken m → choose true (each f k (suc n)) len ≡ allTaken (suc m)
+  past : (k n m : ℕ) → leb len (f k .size) ≡ false → choose true (each f (suc k) n) len ≡ allTaken m
+      → choose true (each f k (suc n)) len ≡ allTaken (suc m)
   unfolding each choose
   past k n m e q = rw (e, q)
 
-  choose-spilt : (n k j t m : ℕ) → k + j ≡ t → j < n → n ≡ suc m → ((s : ℕ) → k ≤ s → s < t → leb len (f s .size) ≡ false) → ((s : ℕ) → t ≤ s → s < k + n → (leb len (f s .size) ≡ true) × (lowest (f s .slots) ≡ none)) → choose true (each f k n) len ≡ allTaken m
+  choose-spilt : (n k j t m : ℕ) → k + j ≡ t → j < n → n ≡ suc m → ((s : ℕ) → k ≤ s → s < t → leb len (f s .size) ≡ false)
+      → ((s : ℕ) → t ≤ s → s < k + n → (leb len (f s .size) ≡ true) × (lowest (f s .slots) ≡ none)) → choose true (each f k n) len ≡ allTaken m
   choose-spilt zero k j t m e l q g h = absurd (not-suc-le-zero l)
   choose-spilt (suc n) k zero t m e l q g h = let w : m ≡ n = omega arith in rw w (choose-all n k (λ s a b. h s (omega arith) b))
   choose-spilt (suc n) k (suc j) t zero e l q g h = absurd (omega arith)
@@ -130,7 +136,8 @@ module _ (su : Setup) (st le : List ℕ) where
       let l = ltb-false (firstFrom p 0 (slotsAt su k)) (slotsAt su k) h in
       lowest-none (slotIn su st le k) (slotsAt su k) 0 (λ s a b. taken-from (getD le (rowsBefore su k + s) 0) (bytesAt su st k s) (first-before p (slotsAt su k) 0 s a (omega arith)))
 
-  pub chosen-large : (len k : ℕ) → k ≡ firstFrom (fits su len) 0 (su .pools) → su .pools ≤ k → Refused (DataTooLarge len) ≡ roomOf su len (choose (su .spill) (view su st le) len)
+  pub chosen-large : (len k : ℕ) → k ≡ firstFrom (fits su len) 0 (su .pools) → su .pools ≤ k
+      → Refused (DataTooLarge len) ≡ roomOf su len (choose (su .spill) (view su st le) len)
   unfolding view roomOf
   chosen-large len k e l = rw (choose-large (poolIn su st le) len (su .spill) (su .pools) 0 (λ s a b. first-before (fits su len) (su .pools) 0 s a (omega arith)))
 
@@ -143,13 +150,15 @@ module _ (su : Setup) (ok : setupOk su ≡ true) (st le : List ℕ) (len k : ℕ
       let p : leb len (sizeAt su k) ≡ true = subst (λ (j : ℕ). leb len (sizeAt su j) ≡ true) (sym e) (first-passes (fits su len) (su .pools) 0 (omega arith)) in
       le-leb _ _ (le-trans (leb-true _ _ p) (setup-rising su ok k s a b))
 
-  passed-by : (sp : Bool) (s : ℕ) (b : Bool) → ltb s k ≡ b → (k ≤ s → (sp ≡ true) × (lowest (poolIn su st le s .slots) ≡ none)) → Passed (poolIn su st le) len sp s
+  passed-by : (sp : Bool) (s : ℕ) (b : Bool) → ltb s k ≡ b → (k ≤ s → (sp ≡ true) × (lowest (poolIn su st le s .slots) ≡ none))
+      → Passed (poolIn su st le) len sp s
   unfolding Passed
   passed-by sp s true e h = inl (early s (ltb-true _ _ e))
   passed-by sp s false e h = inr (h (ltb-false _ _ e))
 
   -- room in a subpool that is tried
-  into-at : (sp : Bool) (t : ℕ) → k ≤ t → t < cond sp (su .pools) (k + 1) → hasFree su le t ≡ true → ((s : ℕ) → k ≤ s → s < t → hasFree su le s ≡ false) → choose sp (view su st le) len ≡ into t (freeSlot su le t)
+  into-at : (sp : Bool) (t : ℕ) → k ≤ t → t < cond sp (su .pools) (k + 1) → hasFree su le t ≡ true
+      → ((s : ℕ) → k ≤ s → s < t → hasFree su le s ≡ false) → choose sp (view su st le) len ≡ into t (freeSlot su le t)
   unfolding view
   into-at true t a b h g =
       choose-into (poolIn su st le) len true (su .pools) 0 t t _ (omega arith) b (holds t a b) (lowest-free su st le t h)
@@ -158,7 +167,8 @@ module _ (su : Setup) (ok : setupOk su ≡ true) (st le : List ℕ) (len k : ℕ
       choose-into (poolIn su st le) len false (su .pools) 0 t t _ (omega arith) (omega arith) (holds t a (omega arith)) (lowest-free su st le t h)
       (λ s u v. passed-by false s true (lt-ltb s k (omega arith)) (λ m. absurd (omega arith)))
 
-  full-at : (sp : Bool) → ((s : ℕ) → k ≤ s → s < cond sp (su .pools) (k + 1) → hasFree su le s ≡ false) → choose sp (view su st le) len ≡ allTaken (cond sp (su .pools) (k + 1) - 1)
+  full-at : (sp : Bool) → ((s : ℕ) → k ≤ s → s < cond sp (su .pools) (k + 1) → hasFree su le s ≡ false)
+      → choose sp (view su st le) len ≡ allTaken (cond sp (su .pools) (k + 1) - 1)
   unfolding view
   full-at true g =
       choose-spilt (poolIn su st le) len (su .pools) 0 k k (su .pools - 1) (omega arith) l (omega arith) (λ s u v. early s v)
@@ -170,6 +180,7 @@ module _ (su : Setup) (ok : setupOk su ≡ true) (st le : List ℕ) (len k : ℕ
   unfolding roomIn roomOf lastTried unless
   chosen-room n q = go (ltb (firstFrom (hasFree su le) k (n - k)) n) refl
     where
-      go : (b : Bool) → ltb (firstFrom (hasFree su le) k (n - k)) n ≡ b → unless b (Refused (StoreFull (n - 1))) (At (cellOf su (firstFrom (hasFree su le) k (n - k)) (freeSlot su le (firstFrom (hasFree su le) k (n - k))))) ≡ roomOf su len (choose (su .spill) (view su st le) len)
+      go : (b : Bool) → ltb (firstFrom (hasFree su le) k (n - k)) n ≡ b
+          → unless b (Refused (StoreFull (n - 1))) (At (cellOf su (firstFrom (hasFree su le) k (n - k)) (freeSlot su le (firstFrom (hasFree su le) k (n - k))))) ≡ roomOf su len (choose (su .spill) (view su st le) len)
       go true m = rw (into-at (su .spill) (firstFrom (hasFree su le) k (n - k)) (first-ge (hasFree su le) (n - k) k) (subst (λ (x : ℕ). firstFrom (hasFree su le) k (n - k) < x) q (ltb-true _ _ m)) (first-passes (hasFree su le) (n - k) k (let z = ltb-true (firstFrom (hasFree su le) k (n - k)) n m in let y = first-ge (hasFree su le) (n - k) k in omega arith)) (λ s u v. first-before (hasFree su le) (n - k) k s u v))
       go false m = rw (full-at (su .spill) (λ s u v. first-before (hasFree su le) (n - k) k s u (let z = ltb-false (firstFrom (hasFree su le) k (n - k)) n m in omega arith)), ← q)

@@ -69,7 +69,8 @@ spill-open true ps n tooLarge h = tt
 spill-open true ps n (allTaken k) h = tt
 spill-open true ps n (into k i) h = h
 
-pick-open : (sp b : Bool) (p : Pool) (ps : List Pool) (n : ℕ) (o : Option ℕ) (r : Choice) → leb n (p .size) ≡ b → OpenIn (p .slots) o → Open (p ∷ ps) n r → Open (p ∷ ps) n (pick sp b o r)
+pick-open : (sp b : Bool) (p : Pool) (ps : List Pool) (n : ℕ) (o : Option ℕ) (r : Choice) → leb n (p .size) ≡ b → OpenIn (p .slots) o
+    → Open (p ∷ ps) n r → Open (p ∷ ps) n (pick sp b o r)
 unfolding findAt sizeIn
 pick-open sp false p ps n o r e h g = g
 pick-open sp true p ps n (some i) r e h g = (h, leb-true _ _ e)
@@ -111,11 +112,13 @@ module _ (su : Setup) (st le : List ℕ) (k i : ℕ) (q : findAt (view su st le)
   vacant-inside : (k < su .pools) × (i < slotsAt su k) × (getD le (rowsBefore su k + i) 0 ≡ storeFree)
   vacant-inside = in-pool (ltb k (su .pools)) refl
     where
-      in-row : (t : Bool) → eqb (getD le (rowsBefore su k + i) 0) storeFree ≡ t → k < su .pools → i < slotsAt su k → (k < su .pools) × (i < slotsAt su k) × (getD le (rowsBefore su k + i) 0 ≡ storeFree)
+      in-row : (t : Bool) → eqb (getD le (rowsBefore su k + i) 0) storeFree ≡ t → k < su .pools → i < slotsAt su k
+          → (k < su .pools) × (i < slotsAt su k) × (getD le (rowsBefore su k + i) 0 ≡ storeFree)
       in-row true e l m = (l, m, eqb-true _ _ e)
       in-row false e l m = absurd (vacant-held _ _ _ (find-held su st le k i l m (eqb-false _ _ e)) q)
 
-      in-slot : (t : Bool) → ltb i (slotsAt su k) ≡ t → k < su .pools → (k < su .pools) × (i < slotsAt su k) × (getD le (rowsBefore su k + i) 0 ≡ storeFree)
+      in-slot : (t : Bool) → ltb i (slotsAt su k) ≡ t → k < su .pools
+          → (k < su .pools) × (i < slotsAt su k) × (getD le (rowsBefore su k + i) 0 ≡ storeFree)
       in-slot true e l = in-row (eqb (getD le (rowsBefore su k + i) 0) storeFree) refl l (ltb-true _ _ e)
       in-slot false e l = absurd (vacant-slot _ (find-no-slot su st le k i l (ltb-false _ _ e)) q)
 
@@ -153,14 +156,16 @@ room-paper : Spot → Paper
 room-paper (Refused e) = paper e
 room-paper (At c) = no 0 []
 
-place-refused : (su : Setup) (ps : List Pool) (d : List ℕ) (x : Choice) (e : StoreRefusal) → roomOf su (length d) x ≡ Refused e → place ps d x ≡ refused (paper e)
+place-refused : (su : Setup) (ps : List Pool) (d : List ℕ) (x : Choice) (e : StoreRefusal) → roomOf su (length d) x ≡ Refused e
+    → place ps d x ≡ refused (paper e)
 unfolding roomOf place room-paper paper
 place-refused su ps d tooLarge e q = ap refused (ap room-paper q)
 place-refused su ps d (allTaken k) e q = ap refused (ap room-paper q)
 place-refused su ps d (into k i) e q = let z : _≡_ {A = ℕ} 0 1 = cc in absurd (omega arith)
 
 module _ (su : Setup) (st le d : List ℕ) where
-  pub add-refused : (r : Spot) (e : StoreRefusal) → r ≡ roomOf su (length d) (choose (su .spill) (view su st le) (length d)) → r ≡ Refused e → Does su st le (λ ps. addIn (su .spill) ps d) (addedPaper (Ad.Refused e)) st le
+  pub add-refused : (r : Spot) (e : StoreRefusal) → r ≡ roomOf su (length d) (choose (su .spill) (view su st le) (length d)) → r ≡ Refused e
+      → Does su st le (λ ps. addIn (su .spill) ps d) (addedPaper (Ad.Refused e)) st le
   unfolding addIn addedPaper
   add-refused r e p q = does-refused su st le _ (paper e) (place-refused su (view su st le) d _ e (sym p ∙ q))
 
@@ -170,7 +175,8 @@ module _ (su : Setup) (st le d : List ℕ) where
   unfolding addIn addedPaper place says
   add-says c k a e = rw (k .chosen, e)
 
-  pub add-at : Sound su st le → (c : Cell) → Room su st le (length d) c → (a : ℕ) (st′ le′ : List ℕ) → a ≡ addressOf (c .pool) (c .slot) → st′ ≡ put (c .from) (c .size) (over d (part (c .from) (c .size) st)) st → le′ ≡ set le (c .row) (length d)
+  pub add-at : Sound su st le → (c : Cell) → Room su st le (length d) c → (a : ℕ) (st′ le′ : List ℕ) → a ≡ addressOf (c .pool) (c .slot)
+      → st′ ≡ put (c .from) (c .size) (over d (part (c .from) (c .size) st)) st → le′ ≡ set le (c .row) (length d)
       → Does su st le (λ ps. addIn (su .spill) ps d) (addedPaper (Ad.At a)) st′ le′
   unfolding addIn addedPaper place
   add-at fine c k a st′ le′ e p q =

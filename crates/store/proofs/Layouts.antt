@@ -69,10 +69,12 @@ pub len-small : (size n : ℕ) → n ≤ size → lenOk size n ≡ true
 len-small size n p = simp (le-leb n size p, or-true)
 
 -- what a test on copies of a subpool's numbers says of the subpool
-pub pool-test : (su : Setup) (k last size slots : ℕ) (r b : Bool) → last ≡ lastSize su k → size ≡ sizeAt su k → slots ≡ slotsAt su k → r ≡ poolOk last size slots → r ≡ b → poolOkAt su k ≡ b
+pub pool-test : (su : Setup) (k last size slots : ℕ) (r b : Bool) → last ≡ lastSize su k → size ≡ sizeAt su k → slots ≡ slotsAt su k
+    → r ≡ poolOk last size slots → r ≡ b → poolOkAt su k ≡ b
 pool-test su k last size slots r b p q s e t = cc
 
-pub rows-test : (su : Setup) (lens : List ℕ) (k base count size : ℕ) (r b : Bool) → base ≡ rowsBefore su k → size ≡ sizeAt su k → count ≡ slotsAt su k → r ≡ allBelow (rowOk lens base size) count → r ≡ b → poolLensOk su lens k ≡ b
+pub rows-test : (su : Setup) (lens : List ℕ) (k base count size : ℕ) (r b : Bool) → base ≡ rowsBefore su k → size ≡ sizeAt su k → count ≡ slotsAt su k
+    → r ≡ allBelow (rowOk lens base size) count → r ≡ b → poolLensOk su lens k ≡ b
 rows-test su lens k base count size r b p q s e t = rw (← p, ← q, ← s, ← e) t
 
 pub setup-few : (su : Setup) → setupOk su ≡ true → su .pools ≤ maxSubpools

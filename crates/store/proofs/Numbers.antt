@@ -24,5 +24,8 @@ numbered (InvalidStoreId (InvalidPacketIdx k)) = refl
 numbered (DataDoesNotExist a) = refl
 numbered (BufferTooSmall f n) = refl
 
+pub has-number : (e : StoreRefusal) → paper e .number ≡ 0 → ⊥
+has-number e q = eqb-false (paper e .number) 0 (numbered e) q
+
 pub not-done : (e : StoreRefusal) (vs : List ℕ) → paper e ≡ no 0 vs → ⊥
-not-done e vs q = eqb-false (paper e .number) 0 (numbered e) (ap (λ (p : Paper). p .number) q)
+not-done e vs q = has-number e (ap (λ (p : Paper). p .number) q)

@@ -26,7 +26,6 @@ use Rattle.store.specs.declared.layout.Cell.{Cell}
 use Rattle.store.specs.declared.StoreRefusal.{StoreRefusal}
 use Rattle.store.specs.declared.search.Spot.{Spot}
 use Rattle.store.specs.declared.search.Spot.the-variants.{Refused, At}
-use Rattle.store.specs.declared.Verdict.the-variants.{Fine}
 
 pub record Packet (su : Setup) (st le : List ℕ) (a : ℕ) (c : Cell) : Type 0 where
   pub is : c ≡ cellOf su (poolOf a) (slotOf a)
@@ -44,7 +43,8 @@ held-slot x n b p q = let z : _≡_ {A = ℕ} 0 1 = cc in omega arith
 held-vacant : (x : Found) (n : ℕ) (b : List ℕ) → x ≡ vacant → x ≡ held n b → ⊥
 held-vacant x n b p q = let z : _≡_ {A = ℕ} 0 1 = cc in omega arith
 
-pub spot-at : (su : Setup) (a : ℕ) (x : Found) (c : Cell) → spotOf su a x ≡ At c → (n : ℕ) × (b : List ℕ) × (x ≡ held n b) × (c ≡ cellOf su (poolOf a) (slotOf a))
+pub spot-at : (su : Setup) (a : ℕ) (x : Found) (c : Cell) → spotOf su a x ≡ At c
+    → (n : ℕ) × (b : List ℕ) × (x ≡ held n b) × (c ≡ cellOf su (poolOf a) (slotOf a))
 unfolding spotOf
 spot-at su a noPool c q = let z : _≡_ {A = ℕ} 0 1 = cc in absurd (omega arith)
 spot-at su a noSlot c q = let z : _≡_ {A = ℕ} 0 1 = cc in absurd (omega arith)
@@ -55,7 +55,8 @@ paper-of : Spot → Paper
 paper-of (Refused e) = paper e
 paper-of (At c) = no 0 []
 
-pub spot-refused : {A : Type 0} (su : Setup) (a : ℕ) (x : Found) (e : StoreRefusal) (f : ℕ → List ℕ → Outcome A) → spotOf su a x ≡ Refused e → ifHeld a x f ≡ refused (paper e)
+pub spot-refused : {A : Type 0} (su : Setup) (a : ℕ) (x : Found) (e : StoreRefusal) (f : ℕ → List ℕ → Outcome A) → spotOf su a x ≡ Refused e
+    → ifHeld a x f ≡ refused (paper e)
 unfolding spotOf ifHeld ifNamed paper-of paper
 spot-refused su a noPool e f q = ap refused (ap paper-of q)
 spot-refused su a noSlot e f q = ap refused (ap paper-of q)
@@ -66,7 +67,8 @@ module _ (su : Setup) (st le : List ℕ) (k i : ℕ) (n : ℕ) (b : List ℕ) (q
   pub held-inside : (k < su .pools) × (i < slotsAt su k) × (getD le (rowsBefore su k + i) 0 ≡ storeFree → ⊥)
   held-inside = in-pool (ltb k (su .pools)) refl
     where
-      in-slot : (t : Bool) → ltb i (slotsAt su k) ≡ t → k < su .pools → (k < su .pools) × (i < slotsAt su k) × (getD le (rowsBefore su k + i) 0 ≡ storeFree → ⊥)
+      in-slot : (t : Bool) → ltb i (slotsAt su k) ≡ t → k < su .pools
+          → (k < su .pools) × (i < slotsAt su k) × (getD le (rowsBefore su k + i) 0 ≡ storeFree → ⊥)
       in-slot true e l = (l, ltb-true _ _ e, λ f. held-vacant _ n b (find-vacant su st le k i l (ltb-true _ _ e) f) q)
       in-slot false e l = absurd (held-slot _ n b (find-no-slot su st le k i l (ltb-false _ _ e)) q)
 

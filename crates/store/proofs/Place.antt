@@ -1,5 +1,5 @@
 -- The cases of the searches: an address in the setup, and a free slot.
-use Prim.Native.Nat.{_*_, _+_, _-_, _<_, _≤_, ℕ}
+use Prim.Native.Nat.{_+_, _-_, _<_, _≤_, ℕ}
 use Rattle.rules.proofs.First.{first-end-from, first-stop-from}
 use Rattle.rules.specs.Tests.{firstFrom, unless}
 use Rattle.store.proofs.Find.{find-held, find-no-pool, find-no-slot, find-vacant}
@@ -20,7 +20,7 @@ use native.Mathlib.Omega.{arith}
 use Rattle.store.specs.declared.Setup.{Setup}
 use Rattle.store.specs.declared.layout.Cell.{Cell}
 use Rattle.store.specs.declared.StoreRefusal.{StoreRefusal}
-use Rattle.store.specs.declared.StoreRefusal.the-variants.{DataDoesNotExist, InvalidStoreId, DataTooLarge, StoreFull}
+use Rattle.store.specs.declared.StoreRefusal.the-variants.{DataDoesNotExist, InvalidStoreId, StoreFull}
 use Rattle.store.specs.declared.StoreIdError.the-variants.{InvalidSubpool, InvalidPacketIdx}
 use Rattle.store.specs.declared.search.Spot.{Spot}
 use Rattle.store.specs.declared.search.Spot.the-variants.{Refused, At}
@@ -57,16 +57,19 @@ module _ (su : Setup) (k s : ℕ) where
       let b = at-unless _ _ _ _ (a .1) in
       (ltb-true _ _ (a .0), ltb-true _ _ (b .0), sym (at-same _ _ (b .1)))
 
-pub free-slot : (su : Setup) (lens : List ℕ) (k base count s : ℕ) → base ≡ rowsBefore su k → count ≡ slotsAt su k → s ≡ firstFrom (freeRow lens base) 0 count → s ≡ freeSlot su lens k
+pub free-slot : (su : Setup) (lens : List ℕ) (k base count s : ℕ) → base ≡ rowsBefore su k → count ≡ slotsAt su k
+    → s ≡ firstFrom (freeRow lens base) 0 count → s ≡ freeSlot su lens k
 unfolding freeSlot
 free-slot su lens k base count s p q e = rw (← p, ← q) e
 
 module _ (su : Setup) (lens : List ℕ) (first last : ℕ) where
-  pub room-at : (k : ℕ) → first ≤ k → k < last → ((j : ℕ) → first ≤ j → j < k → hasFree su lens j ≡ false) → hasFree su lens k ≡ true → At (cellOf su k (freeSlot su lens k)) ≡ roomIn su lens first last
+  pub room-at : (k : ℕ) → first ≤ k → k < last → ((j : ℕ) → first ≤ j → j < k → hasFree su lens j ≡ false) → hasFree su lens k ≡ true
+      → At (cellOf su k (freeSlot su lens k)) ≡ roomIn su lens first last
   unfolding roomIn unless
   room-at k a l h e = rw (← (first-stop-from (hasFree su lens) first last k a l h e), lt-ltb k last l)
 
-  pub room-full : (k : ℕ) → first ≤ last → last ≤ k → ((j : ℕ) → first ≤ j → j < k → hasFree su lens j ≡ false) → Refused (StoreFull (last - 1)) ≡ roomIn su lens first last
+  pub room-full : (k : ℕ) → first ≤ last → last ≤ k → ((j : ℕ) → first ≤ j → j < k → hasFree su lens j ≡ false)
+      → Refused (StoreFull (last - 1)) ≡ roomIn su lens first last
   unfolding roomIn unless
   room-full k a l h = rw (← (first-end-from (hasFree su lens) first last k a l h), le-ltb last last (omega arith))
 
@@ -84,15 +87,18 @@ module _ (su : Setup) (st le : List ℕ) (a : ℕ) where
   unfolding spotOf
   spot-no-pool l = rw (find-no-pool su st le (poolOf a) (slotOf a) l)
 
-  pub spot-no-slot : poolOf a < su .pools → slotsAt su (poolOf a) ≤ slotOf a → Refused (InvalidStoreId (InvalidPacketIdx (slotOf a))) ≡ spotOf su a (find (view su st le) a)
+  pub spot-no-slot : poolOf a < su .pools → slotsAt su (poolOf a) ≤ slotOf a
+      → Refused (InvalidStoreId (InvalidPacketIdx (slotOf a))) ≡ spotOf su a (find (view su st le) a)
   unfolding spotOf
   spot-no-slot l m = rw (find-no-slot su st le (poolOf a) (slotOf a) l m)
 
-  pub spot-vacant : poolOf a < su .pools → slotOf a < slotsAt su (poolOf a) → getD le (rowsBefore su (poolOf a) + slotOf a) 0 ≡ storeFree → Refused (DataDoesNotExist (addressOf (poolOf a) (slotOf a))) ≡ spotOf su a (find (view su st le) a)
+  pub spot-vacant : poolOf a < su .pools → slotOf a < slotsAt su (poolOf a) → getD le (rowsBefore su (poolOf a) + slotOf a) 0 ≡ storeFree
+      → Refused (DataDoesNotExist (addressOf (poolOf a) (slotOf a))) ≡ spotOf su a (find (view su st le) a)
   unfolding spotOf
   spot-vacant l m e = rw (find-vacant su st le (poolOf a) (slotOf a) l m e)
 
-  pub spot-held : poolOf a < su .pools → slotOf a < slotsAt su (poolOf a) → (getD le (rowsBefore su (poolOf a) + slotOf a) 0 ≡ storeFree → ⊥) → At (cellOf su (poolOf a) (slotOf a)) ≡ spotOf su a (find (view su st le) a)
+  pub spot-held : poolOf a < su .pools → slotOf a < slotsAt su (poolOf a) → (getD le (rowsBefore su (poolOf a) + slotOf a) 0 ≡ storeFree → ⊥)
+      → At (cellOf su (poolOf a) (slotOf a)) ≡ spotOf su a (find (view su st le) a)
   unfolding spotOf
   spot-held l m e = rw (find-held su st le (poolOf a) (slotOf a) l m e)
 
@@ -116,7 +122,8 @@ module _ (su : Setup) (st le : List ℕ) (a k s : ℕ) (p : k ≡ poolOf a) (q :
   named : (c : Cell) → validated su k s ≡ At c → (poolOf a < su .pools) × (slotOf a < slotsAt su (poolOf a)) × (c ≡ cellOf su (poolOf a) (slotOf a))
   named c v = valid-at su (poolOf a) (slotOf a) c (ap₂ (validated su) (sym p) (sym q) ∙ v)
 
-  pub found-vacant : (n : ℕ) (c : Cell) → n ≡ k * 65536 + s → validated su k s ≡ At c → getD le (c .row) 0 ≡ storeFree → Refused (DataDoesNotExist n) ≡ spotOf su a (find (view su st le) a)
+  pub found-vacant : (n : ℕ) (c : Cell) → n ≡ addressOf k s → validated su k s ≡ At c → getD le (c .row) 0 ≡ storeFree
+      → Refused (DataDoesNotExist n) ≡ spotOf su a (find (view su st le) a)
   found-vacant n c e v f =
       let i = named c v in
       ap (λ (m : ℕ). Refused (DataDoesNotExist m)) (e ∙ ap₂ addressOf p q) ∙ spot-vacant su st le a (i .0) (i .1) (ap (λ (x : Cell). getD le (x .row) 0) (sym (i .2)) ∙ f)

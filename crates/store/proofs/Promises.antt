@@ -23,17 +23,19 @@ use Rattle.store.specs.declared.Setup.{Setup}
 use Rattle.store.specs.declared.layout.Cell.{Cell}
 use Rattle.store.specs.declared.StoreRefusal.{StoreRefusal}
 use Rattle.store.specs.declared.search.Spot.{Spot}
-use Rattle.store.specs.declared.search.Spot.the-variants.{Refused, At}
+use Rattle.store.specs.declared.search.Spot.the-variants.{Refused}
 use Rattle.store.specs.declared.Verdict.{Verdict}
 use Rattle.store.specs.declared.Verdict.the-variants as Ve
 use Rattle.store.specs.declared.Deleted.the-variants as D
 
 -- a judged call that refuses
-pub does-refused : (su : Setup) (st le : List ℕ) (call : List Pool → Outcome (List Pool)) (p : Paper) → call (view su st le) ≡ refused p → Does su st le call p st le
+pub does-refused : (su : Setup) (st le : List ℕ) (call : List Pool → Outcome (List Pool)) (p : Paper) → call (view su st le) ≡ refused p
+    → Does su st le call p st le
 unfolding says after
 does-refused su st le call p q = record { answer = rw q; lists = rw q (leaves-same su st le) }
 
-pub does-done : (su : Setup) (st le st′ le′ : List ℕ) (call : List Pool → Outcome (List Pool)) (vs : List ℕ) (ps : List Pool) → call (view su st le) ≡ done vs ps → Leaves su st le ps st′ le′ → Does su st le call (no 0 vs) st′ le′
+pub does-done : (su : Setup) (st le st′ le′ : List ℕ) (call : List Pool → Outcome (List Pool)) (vs : List ℕ) (ps : List Pool)
+    → call (view su st le) ≡ done vs ps → Leaves su st le ps st′ le′ → Does su st le call (no 0 vs) st′ le′
 unfolding says after
 does-done su st le st′ le′ call vs ps q l = record { answer = rw q; lists = rw q l }
 
@@ -50,7 +52,8 @@ module _ (su : Setup) (st le st′ le′ : List ℕ) (fits : allRows su ≤ leng
 
 -- a public call: judged first
 module _ (su : Setup) (st le : List ℕ) (call : List Pool → Outcome (List Pool)) where
-  pub writes-refused : (v : Verdict) (e : StoreRefusal) → Judges su (length st) le v → v ≡ Ve.Refused e → Writes su st le (judging su st le call) (paper e) st le
+  pub writes-refused : (v : Verdict) (e : StoreRefusal) → Judges su (length st) le v → v ≡ Ve.Refused e
+      → Writes su st le (judging su st le call) (paper e) st le
   unfolding says after
   writes-refused v e j q = rw (judging-refused su st le call v e j q) (record { answer = refl; store = refl; lens = refl })
 
@@ -65,11 +68,13 @@ module _ (su : Setup) (st le : List ℕ) (call : List Pool → Outcome (List Poo
 
 -- delete
 module _ (su : Setup) (st le : List ℕ) (a : ℕ) where
-  pub delete-refused : (r : Spot) (e : StoreRefusal) → r ≡ spotOf su a (find (view su st le) a) → r ≡ Refused e → Does su st le (λ ps. deleteIn ps a) (deletedPaper (D.Refused e)) st le
+  pub delete-refused : (r : Spot) (e : StoreRefusal) → r ≡ spotOf su a (find (view su st le) a) → r ≡ Refused e
+      → Does su st le (λ ps. deleteIn ps a) (deletedPaper (D.Refused e)) st le
   unfolding deleteIn deletedPaper
   delete-refused r e p q = does-refused su st le _ (paper e) (spot-refused su a _ e _ (sym p ∙ q))
 
-  pub delete-at : Sound su st le → (c : Cell) → Packet su st le a c → (st′ le′ : List ℕ) → st′ ≡ put (c .from) (c .size) (replicate (c .size) 0) st → le′ ≡ set le (c .row) storeFree → Does su st le (λ ps. deleteIn ps a) (deletedPaper D.Done) st′ le′
+  pub delete-at : Sound su st le → (c : Cell) → Packet su st le a c → (st′ le′ : List ℕ) → st′ ≡ put (c .from) (c .size) (replicate (c .size) 0) st
+      → le′ ≡ set le (c .row) storeFree → Does su st le (λ ps. deleteIn ps a) (deletedPaper D.Done) st′ le′
   unfolding deleteIn deletedPaper ifHeld ifNamed
   delete-at fine c k st′ le′ p q =
       let h = held-inside su st le (poolOf a) (slotOf a) _ _ (k .there) in

@@ -76,7 +76,8 @@ module _ (su : Setup) (st le : List ℕ) where
       (λ k a (l : k < 0 + su .pools). ap (λ (xs : List Slot). record { size = sizeAt su k; slots = xs }) (each-same _ _ (slotsAt su k) 0 (λ i m. fresh-slot k i (omega arith) (omega arith))))
 
 module _ (su : Setup) (st le : List ℕ) (s : Sized su st le) where
-  pub fresh-leaves : (st′ le′ : List ℕ) → st′ ≡ put 0 (allBytes su) (replicate (allBytes su) 0) st → le′ ≡ put 0 (allRows su) (replicate (allRows su) storeFree) le
+  pub fresh-leaves : (st′ le′ : List ℕ) → st′ ≡ put 0 (allBytes su) (replicate (allBytes su) 0) st
+      → le′ ≡ put 0 (allRows su) (replicate (allRows su) storeFree) le
       → Leaves su st le (freshPools su) st′ le′
   unfolding put
   fresh-leaves st′ le′ p q =
@@ -105,6 +106,7 @@ module _ (su : Setup) (st le : List ℕ) where
   unfolding freshIn sized unless says after startedPaper paper
   fresh-setup q = rw q (record { answer = refl; store = refl; lens = refl })
 
-  pub fresh-buffers : setupOk su ≡ true → buffersOk su (length st) (length le) ≡ false → Writes su st le (freshIn su st le) (startedPaper (St.Refused BadBuffers)) st le
+  pub fresh-buffers : setupOk su ≡ true → buffersOk su (length st) (length le) ≡ false
+      → Writes su st le (freshIn su st le) (startedPaper (St.Refused BadBuffers)) st le
   unfolding freshIn sized unless says after startedPaper paper
   fresh-buffers q r = rw (q, r) (record { answer = refl; store = refl; lens = refl })

@@ -1,6 +1,6 @@
 -- Refusals 1 to 3, each by one test, and their order. Store calls judge only the store's part of them.
 use Prim.Native.Nat.{_+_, suc, zero, ℕ}
-use Rattle.rules.specs.Papers.{Outcome, no, refused}
+use Rattle.rules.specs.Papers.{Outcome, judgedBy, no, refused}
 use Rattle.rules.specs.Tests.{allBelow, allOf, unless}
 use Rattle.store.specs.Layout.{allBytes, allRows, rowsBefore, sizeAt, slotsAt}
 use Rattle.store.specs.Limits.{maxSlotSize, maxSlots, maxStoreBytes, maxSubpools, storeFree}
@@ -53,10 +53,7 @@ lensOk su lens = allBelow (poolLensOk su lens) (su .pools)
 
 -- the first of them whose test fails, and else what the call comes to. `room` is the length of the lent store
 unfoldable pub judged : {A : Type 0} → Setup → ℕ → List ℕ → Outcome A → Outcome A
-judged su room lens o =
-    unless (setupOk su) (refused (no 1 []))
-    (unless (buffersOk su room (length lens)) (refused (no 2 []))
-    (unless (lensOk su lens) (refused (no 3 [])) o))
+judged su room lens o = judgedBy (setupOk su) (buffersOk su room (length lens)) (lensOk su lens) o
 
 -- a fresh start knows the first two alone
 unfoldable pub sized : {A : Type 0} → Setup → ℕ → ℕ → Outcome A → Outcome A

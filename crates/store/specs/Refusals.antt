@@ -1,7 +1,6 @@
 -- The paper's number and values for each answer: 0 for one that is no refusal.
 use Prim.Native.Nat.{ℕ}
 use Rattle.rules.specs.Papers.{Paper, no}
-use denote.Laws.{Is}
 use mathlib.Core.Bool.{Bool, false, true}
 use mathlib.Core.List.{[], _∷_}
 use Rattle.store.specs.declared.StoreIdError.{StoreIdError}

@@ -5,18 +5,20 @@ ghost use mathlib.Core.List.{[]};
 ghost use Prim.Native.Nat.{_+_, _≤_};
 ghost use lib.ListN.{length};
 ghost use Rattle.rules.specs.Papers.{says, done};
-ghost use Rattle.store.specs.Address.{addressOf, poolOf, slotOf};
 ghost use Rattle.store.specs.Layout.{allRows};
 ghost use Rattle.store.specs.Judge.{setupOk, buffersOk, lensOk, judged as fineOr};
 ghost use Rattle.store.specs.Refusals.{deletedPaper, addedPaper, lengthPaper, presencePaper, startedPaper, verdictPaper};
 ghost use Rattle.store.specs.Calls.{deleteIn, addIn, readIn, packetIn, hasIn, lenIn, judging, freshIn};
 ghost use Rattle.store.specs.Promise.{Writes, Reads, Lends, lentBytes, lentFrom};
 
+mod address;
 mod bytes;
 pub mod judged;
 mod layout;
 mod search;
 mod tests;
+
+pub use address::StaticPoolAddr;
 
 // Document 01's sizes, and the mark of a free slot in the length table.
 pub const MAX_SUBPOOLS: usize = 8;
@@ -91,30 +93,6 @@ pub struct Span {
 pub enum Whereabouts {
     At(Span),
     Refused(StoreRefusal),
-}
-
-pub struct StaticPoolAddr {
-    pub pool_idx: u16,
-    pub packet_idx: u16,
-}
-
-impl StaticPoolAddr {
-    pub const INVALID_ADDR: u64 = 0xFFFF_FFFF;
-
-    pub fn decode(addr: u64) -> StaticPoolAddr
-        ensures { λ r. ⌜ (r .«pool_idx» ≡ poolOf addr) × (r .«packet_idx» ≡ slotOf addr) ⌝ }
-    {
-        StaticPoolAddr {
-            pool_idx: (addr / 65536 % 256) as u16,
-            packet_idx: (addr % 256) as u16,
-        }
-    }
-
-    pub fn encode(self) -> u64
-        ensures { λ r. ⌜ r ≡ addressOf (self .«pool_idx») (self .«packet_idx») ⌝ }
-    {
-        (self.pool_idx as u64) * 65536 + (self.packet_idx as u64)
-    }
 }
 
 // The test of refusal 1.

@@ -1,4 +1,5 @@
 // Packets of no bytes and of a whole slot, and the refusals of an address and of a buffer.
+ghost use Prim.Native.Nat.{_≤_};
 use crate::show;
 use crate::stores;
 use store::Setup;
@@ -14,17 +15,22 @@ fn about(text: &[u8], setup: Setup, bytes: &[u8], lens: &[u16], addr: u64) {
     show::say(b"\n");
 }
 
+fn adds(text: &[u8], setup: Setup, bytes: &mut [u8], lens: &mut [u16], n: usize)
+    requires { ⌜ n ≤ 4096 ⌝ }
+{
+    show::added(text, stores::put(setup, bytes, lens, n, 2));
+    show::say(b"\n");
+}
+
 fn packets(setup: Setup, bytes: &mut [u8], lens: &mut [u16]) {
-    show::added(b"add 0 bytes: ", stores::put(setup, bytes, lens, 0, 1));
-    show::say(b"\n");
-    show::added(b"add 16 bytes: ", stores::put(setup, bytes, lens, 16, 2));
-    show::say(b"\n");
-    show::added(b"add 17 bytes: ", stores::put(setup, bytes, lens, 17, 3));
-    show::say(b"\n");
-    show::added(b"add 64 bytes: ", stores::put(setup, bytes, lens, 64, 4));
-    show::say(b"\n");
-    show::added(b"add 65 bytes: ", stores::put(setup, bytes, lens, 65, 5));
-    show::say(b"\n");
+    adds(b"add 0 bytes: ", setup, bytes, lens, 0);
+    adds(b"add 16 bytes: ", setup, bytes, lens, 16);
+    adds(b"add 17 bytes: ", setup, bytes, lens, 17);
+}
+
+fn larger(setup: Setup, bytes: &mut [u8], lens: &mut [u16]) {
+    adds(b"add 64 bytes: ", setup, bytes, lens, 64);
+    adds(b"add 65 bytes: ", setup, bytes, lens, 65);
 }
 
 fn addresses(setup: Setup, bytes: &[u8], lens: &[u16]) {
@@ -56,50 +62,53 @@ fn addresses(setup: Setup, bytes: &[u8], lens: &[u16]) {
     );
 }
 
-fn read_into(text: &[u8], setup: Setup, bytes: &[u8], lens: &[u16], buf: &mut [u8]) {
-    show::length(text, store::read(setup, bytes, lens, 1, buf));
+fn read_into(text: &[u8], setup: Setup, bytes: &[u8], lens: &[u16], addr: u64, room: usize)
+    requires { ⌜ room ≤ 17 ⌝ }
+{
+    let mut buf = [0u8; 17];
+    show::length(
+        text,
+        store::read(setup, bytes, lens, addr, &mut buf[0..room]),
+    );
     show::say(b"\n");
 }
 
 fn buffers(setup: Setup, bytes: &[u8], lens: &[u16]) {
-    let mut buf = [0u8; 17];
-    read_into(b"read 16 bytes into 17: ", setup, bytes, lens, &mut buf);
-    read_into(
-        b"read 16 bytes into 16: ",
-        setup,
-        bytes,
-        lens,
-        &mut buf[0..16],
-    );
-    read_into(
-        b"read 16 bytes into 15: ",
-        setup,
-        bytes,
-        lens,
-        &mut buf[0..15],
-    );
-    read_into(
-        b"read 16 bytes into 0: ",
-        setup,
-        bytes,
-        lens,
-        &mut buf[0..0],
-    );
-    show::length(
-        b"read 0 bytes into 0: ",
-        store::read(setup, bytes, lens, 0, &mut buf[0..0]),
-    );
-    show::say(b"\n");
+    read_into(b"read 16 bytes into 17: ", setup, bytes, lens, 1, 17);
+    read_into(b"read 16 bytes into 16: ", setup, bytes, lens, 1, 16);
+    read_into(b"read 16 bytes into 15: ", setup, bytes, lens, 1, 15);
+    read_into(b"read 16 bytes into 0: ", setup, bytes, lens, 1, 0);
+    read_into(b"read 0 bytes into 0: ", setup, bytes, lens, 0, 0);
 }
 
 fn deletions(setup: Setup, bytes: &mut [u8], lens: &mut [u16]) {
     show::deleted(b"delete 0: ", store::delete(setup, bytes, lens, 0));
     show::deleted(b", again ", store::delete(setup, bytes, lens, 0));
     show::deleted(b", 65537 ", store::delete(setup, bytes, lens, 65537));
+}
+
+fn more_deletions(setup: Setup, bytes: &mut [u8], lens: &mut [u16]) {
     show::deleted(b", 2 ", store::delete(setup, bytes, lens, 2));
     show::deleted(b", 196608 ", store::delete(setup, bytes, lens, 196608));
     show::say(b"\n");
+}
+
+fn filled(setup: Setup, bytes: &mut [u8], lens: &mut [u16]) {
+    packets(setup, bytes, lens);
+    larger(setup, bytes, lens);
+    addresses(setup, bytes, lens);
+    buffers(setup, bytes, lens);
+}
+
+fn emptied(setup: Setup, bytes: &mut [u8], lens: &mut [u16]) {
+    deletions(setup, bytes, lens);
+    more_deletions(setup, bytes, lens);
     about(b"address 0, deleted", setup, bytes, lens, 0);
+}
+
+fn all(setup: Setup, bytes: &mut [u8], lens: &mut [u16]) {
+    filled(setup, bytes, lens);
+    emptied(setup, bytes, lens);
 }
 
 // Slots 2, 2, 1 of 16, 32, 64 bytes: 160 bytes and 5 rows.
@@ -107,8 +116,5 @@ pub fn run() {
     let setup = stores::three(3, [16, 32, 64], [2, 2, 1], false);
     let mut bytes = [0u8; 160];
     let mut lens = [65535u16; 5];
-    packets(setup, &mut bytes, &mut lens);
-    addresses(setup, &bytes, &lens);
-    buffers(setup, &bytes, &lens);
-    deletions(setup, &mut bytes, &mut lens);
+    all(setup, &mut bytes, &mut lens);
 }

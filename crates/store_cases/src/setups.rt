@@ -1,6 +1,5 @@
 // Setups at the edge of every size, and buffers one short.
 ghost use Prim.Native.Nat.{_≤_};
-ghost use lib.ListN.{length};
 use crate::show;
 use crate::stores;
 use store::Setup;
@@ -16,6 +15,9 @@ fn edge(text: &[u8], setup: Setup, bytes: &mut [u8], lens: &mut [u16]) {
 fn subpools(bytes: &mut [u8], lens: &mut [u16]) {
     edge(b"0 subpools", stores::eight(0), bytes, lens);
     edge(b"1 subpool", stores::eight(1), bytes, lens);
+}
+
+fn more_subpools(bytes: &mut [u8], lens: &mut [u16]) {
     edge(b"8 subpools", stores::eight(8), bytes, lens);
     edge(b"9 subpools", stores::eight(9), bytes, lens);
 }
@@ -23,6 +25,9 @@ fn subpools(bytes: &mut [u8], lens: &mut [u16]) {
 fn slots(bytes: &mut [u8], lens: &mut [u16]) {
     edge(b"0 slots", stores::one(16, 0), bytes, lens);
     edge(b"1 slot", stores::one(16, 1), bytes, lens);
+}
+
+fn more_slots(bytes: &mut [u8], lens: &mut [u16]) {
     edge(b"256 slots", stores::one(16, 256), bytes, lens);
     edge(b"257 slots", stores::one(16, 257), bytes, lens);
 }
@@ -30,6 +35,9 @@ fn slots(bytes: &mut [u8], lens: &mut [u16]) {
 fn sizes(bytes: &mut [u8], lens: &mut [u16]) {
     edge(b"slots of 0 bytes", stores::one(0, 1), bytes, lens);
     edge(b"slots of 1 byte", stores::one(1, 1), bytes, lens);
+}
+
+fn more_sizes(bytes: &mut [u8], lens: &mut [u16]) {
     edge(b"slots of 4096 bytes", stores::one(4096, 1), bytes, lens);
     edge(b"slots of 4097 bytes", stores::one(4097, 1), bytes, lens);
 }
@@ -49,42 +57,44 @@ fn totals(bytes: &mut [u8], lens: &mut [u16]) {
     edge(b"one slot more", more, bytes, lens);
 }
 
+fn numbers(bytes: &mut [u8], lens: &mut [u16]) {
+    subpools(bytes, lens);
+    more_subpools(bytes, lens);
+    slots(bytes, lens);
+}
+
+fn all_sizes(bytes: &mut [u8], lens: &mut [u16]) {
+    more_slots(bytes, lens);
+    sizes(bytes, lens);
+    more_sizes(bytes, lens);
+}
+
+fn all(bytes: &mut [u8], lens: &mut [u16]) {
+    numbers(bytes, lens);
+    all_sizes(bytes, lens);
+    rising(bytes, lens);
+}
+
 fn large() {
-    let mut bytes = [0u8; 1048576];
+    let mut bytes = stores::room();
     let mut lens = [0u16; 2048];
-    subpools(&mut bytes, &mut lens);
-    slots(&mut bytes, &mut lens);
-    sizes(&mut bytes, &mut lens);
-    rising(&mut bytes, &mut lens);
+    all(&mut bytes, &mut lens);
     totals(&mut bytes, &mut lens);
 }
 
 // Two subpools: 48 bytes and 2 rows.
-fn buffers() {
-    let setup = stores::three(2, [16, 32, 0], [1, 1, 0], false);
-    let mut bytes = [0u8; 48];
+fn buffers(text: &[u8], setup: Setup, bytes: usize, rows: usize)
+    requires { ⌜ (bytes ≤ 48) × (rows ≤ 2) ⌝ }
+{
+    let mut store = [0u8; 48];
     let mut lens = [0u16; 2];
-    edge(
-        b"48 bytes and 2 rows for 48 and 2",
-        setup,
-        &mut bytes,
-        &mut lens,
-    );
-    edge(
-        b"47 bytes and 2 rows for 48 and 2",
-        setup,
-        &mut bytes[0..47],
-        &mut lens,
-    );
-    edge(
-        b"48 bytes and 1 row for 48 and 2",
-        setup,
-        &mut bytes,
-        &mut lens[0..1],
-    );
+    edge(text, setup, &mut store[0..bytes], &mut lens[0..rows]);
 }
 
 pub fn run() {
     large();
-    buffers();
+    let setup = stores::three(2, [16, 32, 0], [1, 1, 0], false);
+    buffers(b"48 bytes and 2 rows for 48 and 2", setup, 48, 2);
+    buffers(b"47 bytes and 2 rows for 48 and 2", setup, 47, 2);
+    buffers(b"48 bytes and 1 row for 48 and 2", setup, 48, 1);
 }

@@ -88,16 +88,33 @@ pub fn deleted(text: &[u8], r: Deleted) {
     }
 }
 
+fn wide8(x: u8) -> u64 {
+    x as u64
+}
+
+fn wide16(x: u16) -> u64 {
+    x as u64
+}
+
 // A space and a number for each byte.
 pub fn bytes(text: &[u8], part: &[u8]) {
     say(text);
     let n = part.len();
     let mut i: usize = 0;
     while i < n {
-        number(b" ", part[i] as u64);
+        number(b" ", wide8(part[i]));
         i += 1;
     }
     say(b"\n");
+}
+
+// Those from one place to another.
+pub fn some_bytes(text: &[u8], part: &[u8], from: usize, end: usize) {
+    if from <= end {
+        if end <= part.len() {
+            bytes(text, &part[from..end]);
+        }
+    }
 }
 
 pub fn rows(text: &[u8], part: &[u16]) {
@@ -105,7 +122,7 @@ pub fn rows(text: &[u8], part: &[u16]) {
     let n = part.len();
     let mut i: usize = 0;
     while i < n {
-        number(b" ", part[i] as u64);
+        number(b" ", wide16(part[i]));
         i += 1;
     }
     say(b"\n");

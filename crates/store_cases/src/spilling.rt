@@ -16,19 +16,29 @@ fn deletes(text: &[u8], setup: Setup, bytes: &mut [u8], lens: &mut [u16], addr: 
     show::say(b"\n");
 }
 
+fn first_half(setup: Setup, bytes: &mut [u8], lens: &mut [u16]) {
+    adds(b"add a, 16 bytes: ", setup, bytes, lens, 16);
+    adds(b"add r, 16 bytes: ", setup, bytes, lens, 16);
+    adds(b"add q, 32 bytes: ", setup, bytes, lens, 32);
+}
+
+fn second_half(setup: Setup, bytes: &mut [u8], lens: &mut [u16], q: u64) {
+    adds(b"add t, 32 bytes: ", setup, bytes, lens, 32);
+    deletes(b"delete q: ", setup, bytes, lens, q);
+    adds(b"add w, 64 bytes: ", setup, bytes, lens, 64);
+}
+
 // a, r and q are added, r is deleted, t is added, q is deleted, w is added; r and q lie at two addresses.
+fn told(setup: Setup, bytes: &mut [u8], lens: &mut [u16], r: u64, q: u64) {
+    first_half(setup, bytes, lens);
+    deletes(b"delete r: ", setup, bytes, lens, r);
+    second_half(setup, bytes, lens, q);
+}
+
 fn story(setup: Setup, r: u64, q: u64) {
     let mut bytes = [0u8; 128];
-    let mut lens = [0u16; 4];
-    show::started(b"fresh: ", store::fresh(setup, &mut bytes, &mut lens));
-    show::say(b"\n");
-    adds(b"add a, 16 bytes: ", setup, &mut bytes, &mut lens, 16);
-    adds(b"add r, 16 bytes: ", setup, &mut bytes, &mut lens, 16);
-    adds(b"add q, 32 bytes: ", setup, &mut bytes, &mut lens, 32);
-    deletes(b"delete r: ", setup, &mut bytes, &mut lens, r);
-    adds(b"add t, 32 bytes: ", setup, &mut bytes, &mut lens, 32);
-    deletes(b"delete q: ", setup, &mut bytes, &mut lens, q);
-    adds(b"add w, 64 bytes: ", setup, &mut bytes, &mut lens, 64);
+    let mut lens = [65535u16; 4];
+    told(setup, &mut bytes, &mut lens, r, q);
 }
 
 pub fn run() {

@@ -34,3 +34,8 @@ pub fn put(setup: Setup, bytes: &mut [u8], lens: &mut [u16], n: usize, v: u8) ->
     let packet = [v; 4096];
     store::add(setup, bytes, lens, &packet[0..n])
 }
+
+// Room for the largest store.
+pub fn room() -> [u8; 1048576] {
+    [0u8; 1048576]
+}

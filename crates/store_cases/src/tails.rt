@@ -25,36 +25,59 @@ fn modified(text: &[u8], setup: Setup, bytes: &mut [u8], lens: &[u16], addr: u64
     overwrite(part);
 }
 
+fn adding(setup: Setup, bytes: &mut [u8], lens: &mut [u16]) {
+    show::added(b"add 3 bytes: ", store::add(setup, bytes, lens, &[1, 2, 3]));
+    show::say(b"\n");
+    state(bytes, lens);
+}
+
+fn reading(setup: Setup, bytes: &[u8], lens: &[u16], buf: &mut [u8]) {
+    show::length(b"read: ", store::read(setup, bytes, lens, 0, buf));
+    show::bytes(b", buffer", buf);
+    show::length(b"read 1: ", store::read(setup, bytes, lens, 1, buf));
+    show::bytes(b", buffer", buf);
+}
+
+fn modifying(setup: Setup, bytes: &mut [u8], lens: &[u16]) {
+    modified(b"modify: ", setup, bytes, lens, 0);
+    state(bytes, lens);
+    modified(b"modify 1: ", setup, bytes, lens, 1);
+    state(bytes, lens);
+}
+
+fn deleting(text: &[u8], setup: Setup, bytes: &mut [u8], lens: &mut [u16], addr: u64) {
+    show::deleted(text, store::delete(setup, bytes, lens, addr));
+    show::say(b"\n");
+    state(bytes, lens);
+}
+
+fn starting(setup: Setup, bytes: &mut [u8], lens: &mut [u16]) {
+    show::started(b"fresh: ", store::fresh(setup, bytes, lens));
+    show::say(b"\n");
+    state(bytes, lens);
+}
+
+fn first_half(setup: Setup, bytes: &mut [u8], lens: &mut [u16], buf: &mut [u8]) {
+    adding(setup, bytes, lens);
+    reading(setup, bytes, lens, buf);
+    modifying(setup, bytes, lens);
+}
+
+fn second_half(setup: Setup, bytes: &mut [u8], lens: &mut [u16]) {
+    deleting(b"delete: ", setup, bytes, lens, 0);
+    deleting(b"delete 1: ", setup, bytes, lens, 1);
+    starting(setup, bytes, lens);
+}
+
+fn all(setup: Setup, bytes: &mut [u8], lens: &mut [u16], buf: &mut [u8]) {
+    first_half(setup, bytes, lens, buf);
+    second_half(setup, bytes, lens);
+}
+
 // Two slots of 4 bytes; 4 bytes and 2 rows lie beyond the setup.
 pub fn run() {
-    let setup = stores::one(4, 2);
     let mut bytes = [7u8; 12];
     let mut lens = [65535u16, 65535, 40000, 40001];
     let mut buf = [9u8; 6];
-    show::added(
-        b"add 3 bytes: ",
-        store::add(setup, &mut bytes, &mut lens, &[1, 2, 3]),
-    );
-    show::say(b"\n");
-    state(&bytes, &lens);
-    show::length(b"read: ", store::read(setup, &bytes, &lens, 0, &mut buf));
-    show::bytes(b", buffer", &buf);
-    show::length(b"read 1: ", store::read(setup, &bytes, &lens, 1, &mut buf));
-    show::bytes(b", buffer", &buf);
-    modified(b"modify: ", setup, &mut bytes, &lens, 0);
-    state(&bytes, &lens);
-    modified(b"modify 1: ", setup, &mut bytes, &lens, 1);
-    state(&bytes, &lens);
-    show::deleted(b"delete: ", store::delete(setup, &mut bytes, &mut lens, 0));
-    show::say(b"\n");
-    state(&bytes, &lens);
-    show::deleted(
-        b"delete 1: ",
-        store::delete(setup, &mut bytes, &mut lens, 1),
-    );
-    show::say(b"\n");
-    state(&bytes, &lens);
-    show::started(b"fresh: ", store::fresh(setup, &mut bytes, &mut lens));
-    show::say(b"\n");
-    state(&bytes, &lens);
+    all(stores::one(4, 2), &mut bytes, &mut lens, &mut buf);
 }

@@ -1,10 +1,15 @@
 -- One slot after an edit of one slot: the same slot where it is another, and else what the edit makes of it.
 use Prim.Native.Nat.{suc, zero, ℕ}
-use Rattle.store.specs.Pools.{Found, Pool, Slot, editAt, editSlot, findAt, findSlot, free, held, seen, taken, vacant}
+use Rattle.rules.specs.Papers.{Paper, after, no, says}
+use Rattle.store.proofs.Chosen.{Open}
+use Rattle.store.specs.Address.{addressOf}
+use Rattle.store.specs.Calls.{place}
+use Rattle.store.specs.Pools.{Choice, Found, Pool, Slot, allTaken, editAt, editSlot, fill, findAt, findSlot, free, held, into, seen, taken, tooLarge, vacant}
 use Rattle.store_laws.specs.Requests.{nthSlot, theSlot}
+use lib.ListN.{getD, length}
 use mathlib.Core.List.{List, [], _∷_}
 use mathlib.Core.Option.{some}
-use mathlib.Core.Path.{_≡_, ap, refl}
+use mathlib.Core.Path.{_∙_, _≡_, ap, refl, sym}
 use native.Mathlib.Omega.{arith}
 
 nth-else : (f : Slot → Slot) (xs : List Slot) (i j : ℕ) → (i ≡ j → ⊥) → nthSlot (editSlot f xs j) i ≡ nthSlot xs i
@@ -67,3 +72,18 @@ clash x n b p q = let z : _≡_ {A = ℕ} 0 1 = cc in omega arith
 
 pub not-chosen : (ps : List Pool) (k i m j n : ℕ) (b : List ℕ) → theSlot ps k i ≡ some (taken n b) → findAt ps m j ≡ vacant → (k ≡ m) × (i ≡ j) → ⊥
 not-chosen ps k i m j n b h v e = clash (findAt ps k i) n b (rw (e .0, e .1) v) (slot-seen ps k i (taken n b) h)
+
+pub placed-keeps : (ps : List Pool) (d : List ℕ) (x : Choice) → Open ps (length d) x → (k i n : ℕ) (b : List ℕ) → theSlot ps k i ≡ some (taken n b)
+    → theSlot (after (place ps d x) ps (λ qs. qs)) k i ≡ some (taken n b)
+unfolding place after
+placed-keeps ps d tooLarge w k i n b h = h
+placed-keeps ps d (allTaken m) w k i n b h = h
+placed-keeps ps d (into m j) w k i n b h = slot-else (fill d) ps k i m j (not-chosen ps k i m j n b h (w .0)) ∙ h
+
+-- the slot that an answered addition names is the one that it chose
+pub named : (ps : List Pool) (d : List ℕ) (x : Choice) (a : ℕ) → says (place ps d x) ≡ no 0 (a ∷ [])
+    → (m : ℕ) × (j : ℕ) × (x ≡ into m j) × (a ≡ addressOf m j)
+unfolding place says
+named ps d tooLarge a q = let z : _≡_ {A = ℕ} 11 0 = ap (λ (p : Paper). p .number) q in absurd (omega arith)
+named ps d (allTaken k) a q = let z : _≡_ {A = ℕ} 12 0 = ap (λ (p : Paper). p .number) q in absurd (omega arith)
+named ps d (into m j) a q = (m, j, refl, sym (ap (λ (p : Paper). getD (p .values) 0 0) q))

@@ -42,7 +42,8 @@ slots-fit f z h [] i a = a
 slots-fit f z h (x ∷ xs) zero a = (h x (a .0), a .1)
 slots-fit f z h (x ∷ xs) (suc i) a = (a .0, slots-fit f z h xs i (a .1))
 
-pub edit-fits : (f : Slot → Slot) (ps : List Pool) (k i : ℕ) → ((x : Slot) → Fits (sizeIn ps k) x → Fits (sizeIn ps k) (f x)) → Fitting ps → Fitting (editAt f ps k i)
+pub edit-fits : (f : Slot → Slot) (ps : List Pool) (k i : ℕ) → ((x : Slot) → Fits (sizeIn ps k) x → Fits (sizeIn ps k) (f x)) → Fitting ps
+    → Fitting (editAt f ps k i)
 unfolding editAt sizeIn
 edit-fits f [] k i h a = a
 edit-fits f (p ∷ ps) zero i h a = (slots-fit f (p .size) h (p .slots) i (a .0), a .1)
@@ -102,7 +103,8 @@ view-fits su st le s =
     (λ k l. all-each-fit (slotIn su st le k) (sizeAt su k) (slotsAt su k) 0 (λ i m. fits-from (sizeAt su k) _ (bytesAt su st k i) (bounds s .rows k i (omega arith) (omega arith))))
 
 -- lists that stand for subpools whose packets fit are sound, where setup and buffers are good
-pub sound-of : (su : Setup) (st le : List ℕ) (ps : List Pool) (st′ le′ : List ℕ) → Sized su st le → Leaves su st le ps st′ le′ → Fitting ps → Sound su st′ le′
+pub sound-of : (su : Setup) (st le : List ℕ) (ps : List Pool) (st′ le′ : List ℕ) → Sized su st le → Leaves su st le ps st′ le′ → Fitting ps
+    → Sound su st′ le′
 unfolding view lenAt lensOk
 sound-of su st le ps st′ le′ s l f =
     let g : Fitting (view su st′ le′) = subst (λ (qs : List Pool). Fitting qs) (sym (l .seen)) f in

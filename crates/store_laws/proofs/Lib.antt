@@ -2,10 +2,12 @@
 pub mod Fitting
 pub mod Elsewhere
 pub mod Reached
+pub mod Back
 pub mod OneToOne
 pub mod OneOutcome
 pub mod RefusalKeeps
 pub mod StaysSound
 pub mod OthersStay
+pub mod Keeping
 pub mod ReadBack
 pub mod Worked

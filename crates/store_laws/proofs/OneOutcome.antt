@@ -29,22 +29,27 @@ module _ (su : Setup) (st le : List ℕ) (o : Outcome (List Pool)) (p q : Paper)
   pub one-outcome : Writes su st le o p st₁ le₁ → Writes su st le o q st₂ le₂ → (p ≡ q) × (st₁ ≡ st₂) × (le₁ ≡ le₂)
   one-outcome w v = (w .answer ∙ sym (v .answer), w .store ∙ sym (v .store), w .lens ∙ sym (v .lens))
 
-pub one-reading : (o : Outcome (List ℕ)) (buf : List ℕ) (p q : Paper) (buf₁ buf₂ : List ℕ) → Reads o buf p buf₁ → Reads o buf q buf₂ → (p ≡ q) × (buf₁ ≡ buf₂)
+pub one-reading : (o : Outcome (List ℕ)) (buf : List ℕ) (p q : Paper) (buf₁ buf₂ : List ℕ) → Reads o buf p buf₁ → Reads o buf q buf₂
+    → (p ≡ q) × (buf₁ ≡ buf₂)
 one-reading o buf p q buf₁ buf₂ w v = (w .answer ∙ sym (v .answer), w .buffer ∙ sym (v .buffer))
 
 -- and by the answers themselves: `add`, `delete`, `fresh`
 module _ (su : Setup) (st le : List ℕ) (o : Outcome (List Pool)) (st₁ le₁ st₂ le₂ : List ℕ) where
-  pub one-add : (r s : Added) → Writes su st le o (addedPaper r) st₁ le₁ → Writes su st le o (addedPaper s) st₂ le₂ → (r ≡ s) × (st₁ ≡ st₂) × (le₁ ≡ le₂)
+  pub one-add : (r s : Added) → Writes su st le o (addedPaper r) st₁ le₁ → Writes su st le o (addedPaper s) st₂ le₂
+      → (r ≡ s) × (st₁ ≡ st₂) × (le₁ ≡ le₂)
   one-add r s w v = let e = one-outcome su st le o _ _ st₁ le₁ st₂ le₂ w v in (one-added r s (e .0), e .1, e .2)
 
-  pub one-delete : (r s : Deleted) → Writes su st le o (deletedPaper r) st₁ le₁ → Writes su st le o (deletedPaper s) st₂ le₂ → (r ≡ s) × (st₁ ≡ st₂) × (le₁ ≡ le₂)
+  pub one-delete : (r s : Deleted) → Writes su st le o (deletedPaper r) st₁ le₁ → Writes su st le o (deletedPaper s) st₂ le₂
+      → (r ≡ s) × (st₁ ≡ st₂) × (le₁ ≡ le₂)
   one-delete r s w v = let e = one-outcome su st le o _ _ st₁ le₁ st₂ le₂ w v in (one-deleted r s (e .0), e .1, e .2)
 
-  pub one-fresh : (r s : Started) → Writes su st le o (startedPaper r) st₁ le₁ → Writes su st le o (startedPaper s) st₂ le₂ → (r ≡ s) × (st₁ ≡ st₂) × (le₁ ≡ le₂)
+  pub one-fresh : (r s : Started) → Writes su st le o (startedPaper r) st₁ le₁ → Writes su st le o (startedPaper s) st₂ le₂
+      → (r ≡ s) × (st₁ ≡ st₂) × (le₁ ≡ le₂)
   one-fresh r s w v = let e = one-outcome su st le o _ _ st₁ le₁ st₂ le₂ w v in (one-started r s (e .0), e .1, e .2)
 
 -- `read`
-pub one-read : (o : Outcome (List ℕ)) (buf : List ℕ) (r s : Length) (buf₁ buf₂ : List ℕ) → Reads o buf (lengthPaper r) buf₁ → Reads o buf (lengthPaper s) buf₂ → (r ≡ s) × (buf₁ ≡ buf₂)
+pub one-read : (o : Outcome (List ℕ)) (buf : List ℕ) (r s : Length) (buf₁ buf₂ : List ℕ) → Reads o buf (lengthPaper r) buf₁
+    → Reads o buf (lengthPaper s) buf₂ → (r ≡ s) × (buf₁ ≡ buf₂)
 one-read o buf r s buf₁ buf₂ w v = let e = one-reading o buf _ _ buf₁ buf₂ w v in (one-length r s (e .0), e .1)
 
 -- `modify`, `len_of_data`, `has_element_at`, `judge`
@@ -71,7 +76,8 @@ pub one-judged : (su : Setup) (st le : List ℕ) (call : List Pool → Outcome (
 one-judged su st le call s p q st₁ le₁ st₂ le₂ w v =
     one-outcome su st le (judging su st le call) p q st₁ le₁ st₂ le₂ (writes su st le call p st₁ le₁ s w) (writes su st le call q st₂ le₂ s v)
 
-pub one-judged-fresh : (su : Setup) (st le st₁ le₁ st₂ le₂ : List ℕ) → Sized su st le → Leaves su st le (freshPools su) st₁ le₁ → Leaves su st le (freshPools su) st₂ le₂ → (st₁ ≡ st₂) × (le₁ ≡ le₂)
+pub one-judged-fresh : (su : Setup) (st le st₁ le₁ st₂ le₂ : List ℕ) → Sized su st le → Leaves su st le (freshPools su) st₁ le₁
+    → Leaves su st le (freshPools su) st₂ le₂ → (st₁ ≡ st₂) × (le₁ ≡ le₂)
 one-judged-fresh su st le st₁ le₁ st₂ le₂ s l m =
     let f = sized-fits s in
     (store-laid su st le _ st₁ le₁ l ∙ sym (store-laid su st le _ st₂ le₂ m), lens-laid su st le _ st₁ le₁ l (f .2) ∙ sym (lens-laid su st le _ st₂ le₂ m (f .2)))

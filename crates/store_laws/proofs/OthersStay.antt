@@ -1,23 +1,22 @@
 -- Every slot but the one that a call names is the same slot after it: free or taken as it was, raw bytes included.
 -- A refused call changes no slot (RefusalKeeps); the calls that read are lent the lists for reading alone.
 use Prim.Native.Nat.{ℕ}
-use Rattle.rules.specs.Papers.{Paper, after, done, no, says}
-use Rattle.store.proofs.Chosen.{Open, choose-open}
-use Rattle.store.specs.Address.{addressOf, poolOf, slotOf}
+use Rattle.rules.specs.Papers.{Paper, after, done, no}
+use Rattle.store.proofs.Chosen.{choose-open}
+use Rattle.store.specs.Address.{poolOf, slotOf}
 use Rattle.store.specs.Calls.{addIn, deleteIn, ifHeld, ifNamed, judging, place}
 use Rattle.store.specs.Judge.{Sound}
-use Rattle.store.specs.Pools.{Choice, Found, Pool, allTaken, choose, edit, fill, find, held, into, noPool, noSlot, rewrite, taken, tooLarge, vacant, wipe}
+use Rattle.store.specs.Pools.{Found, Pool, choose, edit, fill, find, held, into, noPool, noSlot, rewrite, taken, vacant, wipe}
 use Rattle.store.specs.Promise.{Writes, startOf}
 use Rattle.store.specs.View.{put, view}
-use Rattle.store_laws.proofs.Elsewhere.{not-chosen, slot-else}
+use Rattle.store_laws.proofs.Elsewhere.{named, placed-keeps, slot-else}
 use Rattle.store_laws.proofs.Reached.{add-done, address-back, delete-done, modify-leaves}
 use Rattle.store_laws.specs.Requests.{Elsewhere, theSlot}
-use lib.ListN.{getD, length}
+use lib.ListN.{length}
 use mathlib.Core.Bool.{Bool}
 use mathlib.Core.List.{List, [], _∷_}
 use mathlib.Core.Option.{some}
 use mathlib.Core.Path.{_∙_, _≡_, ap, refl, sym}
-use native.Mathlib.Omega.{arith}
 use Rattle.store.specs.declared.Setup.{Setup}
 
 -- over the subpools
@@ -40,24 +39,10 @@ pub add-others : (spill : Bool) (ps : List Pool) (d : List ℕ) (m j : ℕ) → 
 unfolding addIn place after
 add-others spill ps d m j q k i o = rw q (slot-else (fill d) ps k i m j o)
 
-placed-keeps : (ps : List Pool) (d : List ℕ) (x : Choice) → Open ps (length d) x → (k i n : ℕ) (b : List ℕ) → theSlot ps k i ≡ some (taken n b)
-    → theSlot (after (place ps d x) ps (λ qs. qs)) k i ≡ some (taken n b)
-unfolding place after
-placed-keeps ps d tooLarge w k i n b h = h
-placed-keeps ps d (allTaken m) w k i n b h = h
-placed-keeps ps d (into m j) w k i n b h = slot-else (fill d) ps k i m j (not-chosen ps k i m j n b h (w .0)) ∙ h
-
 pub add-keeps : (spill : Bool) (ps : List Pool) (d : List ℕ) (k i n : ℕ) (b : List ℕ) → theSlot ps k i ≡ some (taken n b)
     → theSlot (after (addIn spill ps d) ps (λ qs. qs)) k i ≡ some (taken n b)
 unfolding addIn
 add-keeps spill ps d k i n b h = placed-keeps ps d (choose spill ps (length d)) (choose-open spill ps (length d)) k i n b h
-
--- the slot that an answered addition names is the one that it chose
-named : (ps : List Pool) (d : List ℕ) (x : Choice) (a : ℕ) → says (place ps d x) ≡ no 0 (a ∷ []) → (m : ℕ) × (j : ℕ) × (x ≡ into m j) × (a ≡ addressOf m j)
-unfolding place says
-named ps d tooLarge a q = let z : _≡_ {A = ℕ} 11 0 = ap (λ (p : Paper). p .number) q in absurd (omega arith)
-named ps d (allTaken k) a q = let z : _≡_ {A = ℕ} 12 0 = ap (λ (p : Paper). p .number) q in absurd (omega arith)
-named ps d (into m j) a q = (m, j, refl, sym (ap (λ (p : Paper). getD (p .values) 0 0) q))
 
 -- over the lent lists of a sound store: the public calls
 module _ (su : Setup) (st le : List ℕ) (s : Sound su st le) (st′ le′ : List ℕ) (k i : ℕ) where

@@ -84,14 +84,16 @@ modify-leaves su st le s a n raw ys q e =
     (leaves-rewrite su st le (bounds s) (poolOf a) (slotOf a) (h .0) (h .1) ys (h .2)
     (e ∙ held-len _ _ _ _ (sym q ∙ find-held su st le (poolOf a) (slotOf a) (h .0) (h .1) (h .2))))
 
-both-passed : (a b : Bool) (ps : List Pool) → no 0 [] ≡ says (unless a (refused (no 1 [])) (unless b (refused (no 2 [])) (done [] ps))) → (a ≡ true) × (b ≡ true)
+both-passed : (a b : Bool) (ps : List Pool) → no 0 [] ≡ says (unless a (refused (no 1 [])) (unless b (refused (no 2 [])) (done [] ps)))
+    → (a ≡ true) × (b ≡ true)
 unfolding unless says
 both-passed true true ps q = (refl, refl)
 both-passed false b ps q = let z : _≡_ {A = ℕ} 0 1 = ap (λ (p : Paper). p .number) q in absurd (omega arith)
 both-passed true false ps q = let z : _≡_ {A = ℕ} 0 2 = ap (λ (p : Paper). p .number) q in absurd (omega arith)
 
 -- a fresh start that was not refused
-pub fresh-made : (su : Setup) (st le st′ le′ : List ℕ) → Writes su st le (freshIn su st le) (startedPaper St.Done) st′ le′ → Sized su st le × Leaves su st le (freshPools su) st′ le′
+pub fresh-made : (su : Setup) (st le st′ le′ : List ℕ) → Writes su st le (freshIn su st le) (startedPaper St.Done) st′ le′
+    → Sized su st le × Leaves su st le (freshPools su) st′ le′
 unfolding freshIn sized startedPaper
 fresh-made su st le st′ le′ w =
     let b = both-passed (setupOk su) (buffersOk su (length st) (length le)) (freshPools su) (w .answer) in

@@ -13,7 +13,8 @@ use mathlib.Core.Path.{_∙_, _≡_, ap}
 use Rattle.store.specs.declared.Setup.{Setup}
 
 -- `add`, `delete`, `fresh`
-pub call-keeps : (su : Setup) (st le : List ℕ) (o : Outcome (List Pool)) (p : Paper) (st′ le′ : List ℕ) → Writes su st le o p st′ le′ → (p .number ≡ 0 → ⊥) → (st′ ≡ st) × (le′ ≡ le)
+pub call-keeps : (su : Setup) (st le : List ℕ) (o : Outcome (List Pool)) (p : Paper) (st′ le′ : List ℕ) → Writes su st le o p st′ le′
+    → (p .number ≡ 0 → ⊥) → (st′ ≡ st) × (le′ ≡ le)
 call-keeps su st le o p st′ le′ w n =
     let m : says o .number ≡ 0 → ⊥ = λ e. n (ap (λ (x : Paper). x .number) (w .answer) ∙ e) in
     (w .store ∙ refusal-keeps o st (storeWith su st) m, w .lens ∙ refusal-keeps o le (lensWith su le) m)
@@ -23,7 +24,8 @@ pub read-keeps : (o : Outcome (List ℕ)) (buf : List ℕ) (p : Paper) (buf′ :
 read-keeps o buf p buf′ w n = w .buffer ∙ refusal-keeps o buf (λ b. b) (λ e. n (ap (λ (x : Paper). x .number) (w .answer) ∙ e))
 
 -- `modify_part` lends nothing where `modify` refuses
-pub part-empty : (su : Setup) (st le : List ℕ) (a : ℕ) → (says (judging su st le (λ ps. packetIn ps a)) .number ≡ 0 → ⊥) → after (judging su st le (λ ps. packetIn ps a)) [] (λ b. b) ≡ []
+pub part-empty : (su : Setup) (st le : List ℕ) (a : ℕ) → (says (judging su st le (λ ps. packetIn ps a)) .number ≡ 0 → ⊥)
+    → after (judging su st le (λ ps. packetIn ps a)) [] (λ b. b) ≡ []
 part-empty su st le a n = refusal-keeps (judging su st le (λ ps. packetIn ps a)) [] (λ b. b) n
 
 -- judged calls

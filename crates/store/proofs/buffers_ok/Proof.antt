@@ -1,9 +1,9 @@
+-- `store::buffers_ok` meets its contract.
 use Rattle.rules.specs.Tests.{allOf}
 use Rattle.store.proofs.Layouts.{setup-few}
 use Rattle.store.specs.Judge.{buffersOk}
 use borrow.Author.Tests.{le-leb, lt-leb}
 use mathlib.Core.Bool.{and-true}
-use borrow.Author.Needs.{needs}
 use Rattle.store.proofs.buffers_ok.Statement.{statement}
 use Rattle.store.proofs.buffers_ok.Tie as tie
 

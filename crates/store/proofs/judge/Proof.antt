@@ -1,3 +1,4 @@
+-- `store::judge` meets its contract.
 use Rattle.store.proofs.Bounds.{buffers-fit}
 use Rattle.store.proofs.Judging.{all-fine, damaged, no-buffers, no-setup}
 use borrow.Author.Tests.{not-false, not-true}

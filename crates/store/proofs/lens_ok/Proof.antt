@@ -1,3 +1,4 @@
+-- `store::lens_ok` meets its contract.
 use Prim.Native.Nat.{_-_, _<_, _≤_, ℕ}
 use Rattle.rules.proofs.All.{all-end, all-stop}
 use Rattle.store.proofs.Layouts.{rows-more, rows-none, rows-test, rows-within, setup-few}

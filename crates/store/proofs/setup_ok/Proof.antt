@@ -1,3 +1,4 @@
+-- `store::setup_ok` meets its contract.
 use Rattle.rules.specs.Tests.{allOf}
 use Rattle.store.specs.Judge.{setupOk}
 use borrow.Author.Tests.{le-leb, lt-leb, not-false, not-true}

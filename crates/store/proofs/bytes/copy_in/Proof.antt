@@ -1,7 +1,6 @@
+-- `store::bytes::copy_in` meets its contract.
 use Prim.Native.Nat.{_-_, _≤_, ℕ}
 use Rattle.store.proofs.Lists.{front-end, front-more}
-use Rattle.store.proofs.Packets.{packet}
-use Rattle.store.specs.View.{part}
 use lib.ListN.{drop, getD, length, length-set, set, take}
 use mathlib.Core.List.{List, _++_}
 use mathlib.Core.Path.{_∙_, _≡_, ap}

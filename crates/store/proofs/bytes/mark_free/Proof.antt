@@ -1,7 +1,7 @@
+-- `store::bytes::mark_free` meets its contract.
 use Prim.Native.Nat.{_-_, _≤_, ℕ}
 use Rattle.store.proofs.Lists.{fill-end}
 use Rattle.store.specs.Limits.{storeFree}
-use Rattle.store.specs.View.{part}
 use borrow.Author.Fill.{fill-more}
 use lib.ListN.{drop, length, length-set, replicate, set}
 use mathlib.Core.List.{List, _++_}

@@ -1,6 +1,6 @@
+-- `store::bytes::zero_fill` meets its contract.
 use Prim.Native.Nat.{_-_, _≤_, ℕ}
 use Rattle.store.proofs.Lists.{fill-end}
-use Rattle.store.specs.View.{part}
 use borrow.Author.Fill.{fill-more}
 use lib.ListN.{drop, length, length-set, replicate, set}
 use mathlib.Core.List.{List, _++_}

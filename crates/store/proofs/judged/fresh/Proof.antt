@@ -1,3 +1,4 @@
+-- `store::judged::fresh` meets its contract.
 use Rattle.store.proofs.Bounds.{sized-fits}
 use Rattle.store.proofs.Lists.{front-back, front-filled}
 use Rattle.store.proofs.Start.{fresh-leaves}

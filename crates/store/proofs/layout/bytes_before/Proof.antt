@@ -1,3 +1,4 @@
+-- `store::layout::bytes_before` meets its contract.
 use Prim.Native.Nat.{_*_, _-_, _≤_}
 use Rattle.store.proofs.Layouts.{bytes-more, bytes-none, product}
 use Rattle.store.specs.Layout.{bytesBefore}

@@ -1,3 +1,4 @@
+-- `store::layout::cell_at` meets its contract.
 use Rattle.store.proofs.Layouts.{product}
 use native.Mathlib.Omega.{arith}
 use borrow.Author.Needs.{needs}

@@ -1,3 +1,4 @@
+-- `store::layout::rows_before` meets its contract.
 use Prim.Native.Nat.{_*_, _-_, _≤_}
 use Rattle.store.proofs.Layouts.{rows-more, rows-none}
 use Rattle.store.specs.Layout.{rowsBefore}

@@ -1,3 +1,4 @@
+-- `store::search::choose` meets its contract.
 use Rattle.store.proofs.Choosing.{chosen-large, chosen-room}
 use Rattle.store.proofs.Place.{last-bounds}
 use mathlib.Core.Path.{_∙_}

@@ -1,3 +1,4 @@
+-- `store::search::find_free` meets its contract.
 use Prim.Native.Nat.{_-_, _<_, _≤_, ℕ}
 use Rattle.rules.proofs.First.{first-end, first-stop}
 use Rattle.store.specs.Inside.{freeRow}

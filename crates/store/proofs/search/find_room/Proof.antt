@@ -1,3 +1,4 @@
+-- `store::search::find_room` meets its contract.
 use Prim.Native.Nat.{_-_, _<_, _≤_, ℕ}
 use Rattle.rules.proofs.First.{from-more, from-none}
 use Rattle.store.proofs.Layouts.{rows-within}

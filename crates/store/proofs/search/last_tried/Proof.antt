@@ -1,3 +1,4 @@
+-- `store::search::last_tried` meets its contract.
 use Rattle.store.specs.Inside.{lastTried}
 use borrow.Author.Needs.{needs}
 use Rattle.store.proofs.search.last_tried.Statement.{statement}

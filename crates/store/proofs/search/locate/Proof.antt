@@ -1,3 +1,4 @@
+-- `store::search::locate` meets its contract.
 use Rattle.store.proofs.Place.{found-held, found-invalid, found-vacant, row-inside}
 use mathlib.Core.Path.{_∙_, sym}
 use native.Mathlib.Omega.{arith}

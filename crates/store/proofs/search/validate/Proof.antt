@@ -1,3 +1,4 @@
+-- `store::search::validate` meets its contract.
 use Rattle.rules.specs.Tests.{unless}
 use Rattle.store.proofs.Place.{valid-slot, valid-yes}
 use Rattle.store.specs.Inside.{validated}

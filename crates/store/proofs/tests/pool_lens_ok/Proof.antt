@@ -1,3 +1,4 @@
+-- `store::tests::pool_lens_ok` meets its contract.
 use Prim.Native.Nat.{_-_, _<_, _≤_, ℕ}
 use Rattle.rules.proofs.All.{all-end, all-stop}
 use Rattle.store.proofs.Layouts.{len-bad, len-free, len-small}

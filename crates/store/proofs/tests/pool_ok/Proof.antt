@@ -1,4 +1,4 @@
--- Each return says which test failed.
+-- `store::tests::pool_ok` meets its contract.
 use Rattle.rules.specs.Tests.{allOf}
 use borrow.Author.Tests.{le-leb, le-ltb, lt-leb, lt-ltb}
 use mathlib.Core.Bool.{and-true}

@@ -1,3 +1,4 @@
+-- `store::tests::pools_ok` meets its contract.
 use Prim.Native.Nat.{_-_, _<_, _≤_, ℕ}
 use Rattle.rules.proofs.All.{all-end, all-stop}
 use Rattle.store.proofs.Layouts.{last-more, last-none, pool-test}
