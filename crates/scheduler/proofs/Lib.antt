@@ -7,3 +7,5 @@ pub mod Counting
 pub mod Openings
 pub mod Retrieving
 pub mod Entering
+pub mod Sweeping
+pub mod Clearing
