@@ -10,3 +10,5 @@ pub mod Entering
 pub mod Adding
 pub mod Activities
 pub mod Wrapping
+pub mod Sweeping
+pub mod Clearing

@@ -1,6 +1,7 @@
 -- What the contracts of private functions cite. A reader need not believe this: the public calls' promises do not name it.
-use Prim.Native.Nat.{_*_, _<_, _≤_, ℕ}
-use mathlib.Core.Bool.{false, true}
+use Prim.Native.Nat.{_*_, _+_, _-_, _<_, _≤_, ℕ}
+use lib.ListN.{drop, take}
+use mathlib.Core.Bool.{Bool, false, true}
 use mathlib.Core.List.{List, []}
 use mathlib.Core.Path.{_≡_}
 use Rattle.record.specs.Refusals.{paper}
@@ -9,12 +10,12 @@ use Rattle.rules.specs.Papers.{Outcome, done, refused, says}
 use Rattle.record.specs.declared.ScheduleRefusal.{ScheduleRefusal}
 use Rattle.store.specs.Pools.{Pool}
 use Rattle.store.specs.Layout.{allRows}
-use Rattle.table.specs.Entries.{width}
+use Rattle.table.specs.Entries.{Entry, width}
 use Rattle.table.specs.Windows.{EndsInRange}
 use Rattle.table.specs.declared.TimeWindow.{TimeWindow}
 use Rattle.time.specs.Time.{inTimeMargin}
 use Rattle.time.specs.declared.UnixTime.{UnixTime}
-use Rattle.scheduler.specs.Answers.{verdictPaper}
+use Rattle.scheduler.specs.Answers.{lastPaper, verdictPaper}
 use Rattle.scheduler.specs.Judge.{judging, setupOk}
 use Rattle.scheduler.specs.Inserting.{enter}
 use Rattle.scheduler.specs.State.{State, recordOf}
@@ -23,6 +24,16 @@ use Rattle.scheduler.specs.Windowing.{windowed}
 use Rattle.scheduler.specs.declared.Window.{Window}
 use Rattle.scheduler.specs.declared.windows.Opened.{Opened}
 use Rattle.scheduler.specs.declared.windows.Opened.the-variants as O
+use Rattle.scheduler.specs.declared.Last.the-variants as La
+use Rattle.scheduler.specs.declared.Tally.{Tally}
+use Rattle.store.specs.declared.Deleted.{Deleted}
+use Rattle.store.specs.declared.Deleted.the-variants as D
+use Rattle.store.specs.declared.Setup.{Setup as StoreSetup}
+use Rattle.store.specs.Pools.{Pool}
+use Rattle.store.specs.View.{Leaves, view}
+use Rattle.table.specs.Edits.{without}
+use Rattle.table.specs.declared.Part.{Part}
+use Rattle.scheduler.specs.Deleting.{Swept, clearIn, sweep, unswept}
 use Rattle.scheduler.specs.declared.Verdict.{Verdict}
 use Rattle.scheduler.specs.declared.Verdict.the-variants.{Fine, Refused}
 
@@ -61,3 +72,28 @@ withCount n r = record { count = n; clock = r .clock; margin = r .margin; enable
 abbrev pub FirstRefusal : Outcome (List Pool) → ScheduleRefusal → ScheduleRefusal → Type 0
 FirstRefusal (refused p) own r = paper r ≡ p
 FirstRefusal (done vs ps) own r = r ≡ own
+
+-- one packet more, in the code's tally
+abbrev pub counted : Tally → Deleted → Tally
+counted t D.Done = record { deleted = t .deleted + 1; missing = t .missing; last = t .last }
+counted t (D.Refused e) = record { deleted = t .deleted; missing = t .missing + 1; last = La.Missing e }
+
+-- what a tally says, over the subpools that are left
+abbrev pub tallied : Tally → List Pool → Swept
+tallied t ps = record { deleted = t .deleted; missing = t .missing; last = lastPaper (t .last); pools = ps }
+
+-- the packets of the entries es are deleted, and t tells what became of them
+pub record Sweeps (su : StoreSetup) (st le : List ℕ) (es : List Entry) (t : Tally) (st′ le′ : List ℕ) : Type 0 where
+  pub told : tallied t (view su st′ le′) ≡ sweep es (unswept (view su st le))
+  pub lists : Leaves su st le (sweep es (unswept (view su st le)) .pools) st′ le′
+
+-- the entries of a range of rows go, with their packets; enabled or disabled afterwards
+abbrev pub enabledAs : Bool → State → State
+enabledAs b s = record { pools = s .pools; entries = s .entries; clock = s .clock; margin = s .margin; enabled = b }
+
+unfoldable pub clearPart : Part → Bool → State → Outcome State
+clearPart p b s =
+    clearIn (take (p .number) (drop (p .first) (s .entries))) (without (p .first) (p .number) (s .entries)) (enabledAs b s)
+
+abbrev pub leftOf : Record → ℕ → Bool → Record
+leftOf r n b = record { count = r .count - n; clock = r .clock; margin = r .margin; enabled = b }

@@ -3,6 +3,7 @@ use record::Changed;
 use record::Done;
 use record::Record;
 use record::ScheduleRefusal;
+use store::StoreRefusal;
 use table::Part;
 use table::TcInfo;
 use time::UnixTime;
@@ -10,15 +11,18 @@ ghost use mathlib.Core.Path.{_≡_};
 ghost use Rattle.rules.specs.Papers.{says};
 ghost use Rattle.scheduler.specs.Judge.{judging};
 ghost use Rattle.record.specs.Refusals.{donePaper};
-ghost use Rattle.scheduler.specs.Answers.{countedPaper, insertedPaper, retrievedPaper};
+ghost use Rattle.scheduler.specs.Answers.{clearedPaper, countedPaper, insertedPaper, retrievedPaper};
+ghost use Rattle.scheduler.specs.Deleting.{deleteWindowIn, resetIn};
 ghost use Rattle.scheduler.specs.Inserting.{insertStoredIn, insertUnwrappedIn, insertWrappedIn};
 ghost use Rattle.scheduler.specs.Promise.{Writes};
 ghost use Rattle.scheduler.specs.Windowing.{countIn, retrieveIn};
 
+pub mod deleting;
 mod gate;
 pub mod inserting;
 mod judge;
 pub mod judged;
+mod sweep;
 mod windows;
 pub mod wrapped;
 
@@ -60,6 +64,29 @@ pub struct Inserted {
 pub enum Retrieved {
     Rows(Part),
     Refused(ScheduleRefusal),
+}
+
+// The last refusal that the store gave for a packet that was missing.
+pub enum Last {
+    None,
+    Missing(StoreRefusal),
+}
+
+// What became of the packets of deleted entries.
+pub struct Tally {
+    pub deleted: usize,
+    pub missing: usize,
+    pub last: Last,
+}
+
+pub enum ClearAnswer {
+    Done(Tally),
+    Refused(ScheduleRefusal),
+}
+
+pub struct Cleared {
+    pub next: Record,
+    pub answer: ClearAnswer,
 }
 
 // How many entries there are. It judges everything, as every call but those on the record alone does.
@@ -164,5 +191,50 @@ pub fn insert_wrapped_tc(
     match j {
         Verdict::Refused(e) => inserting::refuse(rec, e),
         Verdict::Fine => wrapped::insert_wrapped_tc(setup, rec, store, lens, rows, outer),
+    }
+}
+
+// The entries of a window go, with their packets. A packet that is missing is counted, and its entry goes all the same.
+pub fn delete_by_time_filter(
+    setup: Setup,
+    rec: Record,
+    store: &mut [u8],
+    lens: &mut [u16],
+    rows: &mut [u64],
+    w: Window,
+) -> Cleared
+    ensures { λ c. ⌜ Writes setup rec (now (store .entry)) (now (lens .entry)) (now (rows .entry))
+        (judging setup rec (now (store .entry)) (now (lens .entry)) (now (rows .entry)) (deleteWindowIn w))
+        (clearedPaper (c .answer)) (c .next) (now (store .exit)) (now (lens .exit)) (now (rows .exit)) ⌝ }
+{
+    let j = judge::judge(setup, rec, store, lens, rows);
+    match j {
+        Verdict::Refused(e) => Cleared {
+            next: rec,
+            answer: ClearAnswer::Refused(e),
+        },
+        Verdict::Fine => deleting::delete_by_time_filter(setup, rec, store, lens, rows, w),
+    }
+}
+
+// Every entry goes, with its packet, and the scheduler is disabled.
+pub fn reset(
+    setup: Setup,
+    rec: Record,
+    store: &mut [u8],
+    lens: &mut [u16],
+    rows: &mut [u64],
+) -> Cleared
+    ensures { λ c. ⌜ Writes setup rec (now (store .entry)) (now (lens .entry)) (now (rows .entry))
+        (judging setup rec (now (store .entry)) (now (lens .entry)) (now (rows .entry)) resetIn)
+        (clearedPaper (c .answer)) (c .next) (now (store .exit)) (now (lens .exit)) (now (rows .exit)) ⌝ }
+{
+    let j = judge::judge(setup, rec, store, lens, rows);
+    match j {
+        Verdict::Refused(e) => Cleared {
+            next: rec,
+            answer: ClearAnswer::Refused(e),
+        },
+        Verdict::Fine => deleting::reset(setup, rec, store, lens, rows),
     }
 }
