@@ -15,9 +15,9 @@ use Rattle.record.specs.declared.Record.{Record}
 use Rattle.record.specs.declared.ScheduleRefusal.{ScheduleRefusal}
 use Rattle.rules.specs.Papers.{Outcome, Paper, done, no}
 use Rattle.store.specs.View.{view}
-use Rattle.table.proofs.Order.{eq-or-ne}
+use Rattle.table.proofs.Cases.{eq-or-ne}
 use Rattle.table.proofs.Rows.{length-unpack}
-use Rattle.table.proofs.Spans.{window-number, window-part, window-rows}
+use Rattle.table.proofs.WindowLaws.{window-covered, window-rows}
 use Rattle.table.proofs.Stays.{length-without}
 use Rattle.table.specs.Edits.{afterRemove, without}
 use Rattle.table.specs.Entries.{Entry, unpack}
@@ -37,50 +37,9 @@ use Rattle.scheduler.specs.declared.Window.{Window}
 use Rattle.scheduler.specs.declared.windows.Opened.{Opened}
 use Rattle.scheduler.specs.declared.windows.Opened.the-variants as O
 use Rattle.scheduler.proofs.Openings.{opened-at, opened-refused}
-use Rattle.scheduler.proofs.Promises.{does-done, does-refused}
-
--- the window's entries are those of the rows that retrieval answers
-module _ (es : List Entry) (o : ordered es ≡ true) (w : TimeWindow) where
-  window-taken : inWindow w es ≡ take (length (inWindow w es)) (drop (firstRow w es) es)
-  unfolding firstRow
-  window-taken =
-      ⊎-elim
-      (λ (z : length (inWindow w es) ≡ 0).
-      let y : endOf w es - startOf w es ≡ 0 = sym (window-number es o w) ∙ z in
-      rw z (window-part es o w ∙ ap (λ (m : ℕ). take m (drop (startOf w es) es)) y))
-      (λ (z : length (inWindow w es) ≡ 0 → ⊥).
-      rw (ne-eqb (length (inWindow w es)) 0 z)
-      (window-part es o w ∙ ap (λ (m : ℕ). take m (drop (startOf w es) es)) (sym (window-number es o w))))
-      (eq-or-ne (length (inWindow w es)) 0)
-
-  first-none : length (inWindow w es) ≡ 0 → firstRow w es ≡ 0
-  unfolding firstRow
-  first-none z = rw (eq-eqb (length (inWindow w es)) 0 z)
-
-  taken-fits : length (inWindow w es) ≤ length es - firstRow w es
-  taken-fits =
-      let h : length (inWindow w es) ≡ length (take (length (inWindow w es)) (drop (firstRow w es) es)) = ap length window-taken in
-      let g = simp (length-take, length-drop) at h in
-      omega arith
-
-  pub window-fits : firstRow w es + length (inWindow w es) ≤ length es
-  window-fits =
-      let h = taken-fits in
-      ⊎-elim (λ (z : length (inWindow w es) ≡ 0). let f = first-none z in omega arith) (λ (z : length (inWindow w es) ≡ 0 → ⊥). omega arith)
-      (eq-or-ne (length (inWindow w es)) 0)
-
-pub rows-fit : (ro : List ℕ) (n : ℕ) (x : TimeWindow) (p : Part) → ordered (unpack n ro) ≡ true
-    → p .first ≡ firstRow x (unpack n ro) → p .number ≡ length (inWindow x (unpack n ro)) → p .first + p .number ≤ n
-rows-fit ro n x p k f m = omega (arith, f, m, window-fits (unpack n ro) k x, length-unpack n ro)
+use Rattle.scheduler.proofs.Promises.{does-as, does-done, does-refused}
 
 module _ (su : Setup) (r : Record) (st le ro : List ℕ) where
-  -- a promise is one of what the call comes to
-  does-as : (call call′ : State → Outcome State) (p : Paper) (r′ : Record) (st′ le′ ro′ : List ℕ)
-      → call (stateOf su r st le ro) ≡ call′ (stateOf su r st le ro)
-      → Does su r st le ro call p r′ st′ le′ ro′ → Does su r st le ro call′ p r′ st′ le′ ro′
-  does-as call call′ p r′ st′ le′ ro′ q d =
-      record { answer = rw (← q) (d .answer); next = rw (← q) (d .next); lists = rw (← q) (d .lists); rows = rw (← q) (d .rows) }
-
   module _ (p : Part) (b : Bool) where
     gone : List Entry
     gone = take (p .number) (drop (p .first) (unpack (r .count) ro))
@@ -127,7 +86,7 @@ module _ (su : Setup) (r : Record) (st le ro : List ℕ) where
     unfolding clearPart deleteWindowIn stateOf
     window-is x p q k f n =
         let es = unpack (r .count) ro in
-        let g : take (p .number) (drop (p .first) es) ≡ inWindow x es = rw (f, n) (sym (window-taken es k x)) in
+        let g : take (p .number) (drop (p .first) es) ≡ inWindow x es = rw (f, n) (sym (window-covered es k x)) in
         let v : without (p .first) (p .number) es ≡ outside x es = rw (f, n) (sym (window-rows es k x)) in
         ap₂ (λ (a b : List Entry). clearIn a b (stateOf su r st le ro)) g v ∙ sym (opened-at w _ o h x q .0)
 
@@ -135,7 +94,7 @@ module _ (su : Setup) (r : Record) (st le ro : List ℕ) where
         → ordered (unpack (r .count) ro) ≡ true
         → p .first ≡ firstRow x (unpack (r .count) ro) → p .number ≡ length (inWindow x (unpack (r .count) ro))
         → Does su r st le ro (clearPart p (r .enabled)) a n st′ le′ ro′ → Does su r st le ro (deleteWindowIn w) a n st′ le′ ro′
-    window-done x p a n st′ le′ ro′ q k f m d = does-as _ _ a n st′ le′ ro′ (window-is x p q k f m) d
+    window-done x p a n st′ le′ ro′ q k f m d = does-as su r st le ro _ _ a n st′ le′ ro′ (window-is x p q k f m) d
 
   -- all rows
   reset-is : clearPart (record { first = 0; number = r .count }) false (stateOf su r st le ro) ≡ resetIn (stateOf su r st le ro)
@@ -148,4 +107,4 @@ module _ (su : Setup) (r : Record) (st le ro : List ℕ) where
 
   pub reset-done : (a : Paper) (n : Record) (st′ le′ ro′ : List ℕ)
       → Does su r st le ro (clearPart (record { first = 0; number = r .count }) false) a n st′ le′ ro′ → Does su r st le ro resetIn a n st′ le′ ro′
-  reset-done a n st′ le′ ro′ d = does-as _ _ a n st′ le′ ro′ reset-is d
+  reset-done a n st′ le′ ro′ d = does-as su r st le ro _ _ a n st′ le′ ro′ reset-is d

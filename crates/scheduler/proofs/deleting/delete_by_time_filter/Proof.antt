@@ -3,7 +3,7 @@
 use mathlib.Core.List.{[]}
 use borrow.Author.Needs.{needs}
 use Rattle.rules.specs.Papers.{done}
-use Rattle.scheduler.proofs.Clearing.{rows-fit, window-done, window-refused}
+use Rattle.scheduler.proofs.Clearing.{window-done, window-refused}
 use Rattle.scheduler.proofs.Facts.{facts, table-sound}
 use Rattle.scheduler.proofs.Openings.{opened-at}
 use Rattle.scheduler.proofs.deleting.delete_by_time_filter.Statement.{statement}
@@ -19,7 +19,7 @@ clear-requires : tie.Need-clear-requires
 clear-requires c κs =
     let s = c .before .before .before .before .before .before .before .before .before .before .before .before in
     let p = c .before .before .before .rows-in in
-    (s .pre, rows-fit (s .args .rows .now) (s .args .rec .count) _ _ (facts (s .pre) .kept) (p .ensures .0) (p .ensures .1))
+    (s .pre, p .ensures .bound)
 
 returns : tie.Need-returns
 returns c =
@@ -34,7 +34,7 @@ returns-2 c =
     let s = o .before .before .before .before in
     let a = s .args in
     window-done (a .setup) (a .rec) (a .store .now) (a .lens .now) (a .rows .now) (a .w) _ (o .open .ensures) _ _ _ _ _ _ _ (c .before .before .before .before .before .before .before .before .before .before .before .before .before .o2 .given .1)
-    (facts (s .pre) .kept) (p .ensures .0) (p .ensures .1) (c .before .before .before .before .before .before .clear .ensures)
+    (facts (s .pre) .kept) (p .ensures .row) (p .ensures .many) (c .before .before .before .before .before .before .clear .ensures)
 
 pub delete-by-time-filter-spec : {M : Type 1} → statement M
 delete-by-time-filter-spec =

@@ -23,8 +23,8 @@ returns c s q =
 returns-2 : tie.Need-returns-2
 returns-2 c s q =
     let o = c .before .before .before .before in
-    retrieve-at (o .before .before .args .w) _ (o .open .ensures) _ s q _ _ (c .before .before .o2 .given .1) (c .rows-in .ensures .0)
-    (c .rows-in .ensures .1)
+    retrieve-at (o .before .before .args .w) _ (o .open .ensures) _ s q _ _ (c .before .before .o2 .given .1) (c .rows-in .ensures .row)
+    (c .rows-in .ensures .many)
 
 pub retrieve-by-time-filter-spec : {M : Type 1} → statement M
 retrieve-by-time-filter-spec =
