@@ -1,6 +1,8 @@
 -- What a call comes to, in document 01's numbers: its table "Refusal numbers", and 0 for an answer that is no refusal.
 use Prim.Native.Nat.{ℕ}
-use mathlib.Core.List.{List}
+use Rattle.rules.specs.Tests.{unless}
+use mathlib.Core.Bool.{Bool}
+use mathlib.Core.List.{List, []}
 
 -- a number of the table, and the values that it carries
 pub record Paper : Type 0 where
@@ -23,3 +25,8 @@ says (done vs x) = no 0 vs
 unfoldable pub after : {A B : Type 0} → Outcome A → B → (A → B) → B
 after (refused p) b f = b
 after (done vs x) b f = f x
+
+-- "Order: 1, 2, 3": by the tests of setup, buffers and state; and else what the call comes to
+unfoldable pub judgedBy : {A : Type 0} → Bool → Bool → Bool → Outcome A → Outcome A
+judgedBy setup buffers state o =
+    unless setup (refused (no 1 [])) (unless buffers (refused (no 2 [])) (unless state (refused (no 3 [])) o))

@@ -1,0 +1,81 @@
+-- The loop: what is left of the fold, over the store's promise.
+use Prim.Native.Nat.{_+_, _<_, _≤_, ℕ}
+use Rattle.client.specs.Answers.{oneIfDone}
+use Rattle.client.specs.Sweep.{countAll, one, sweepIn, without, withoutAll}
+use Rattle.rules.specs.Papers.{Paper, after, done, no, says}
+use Rattle.store.proofs.Laid.{leaves-as, leaves-now, leaves-same, leaves-then}
+use Rattle.store.proofs.Numbers.{not-done}
+use Rattle.store.specs.Calls.{deleteIn, ifHeld, ifNamed}
+use Rattle.store.specs.Judge.{Sound}
+use Rattle.store.specs.Pools.{Found, Pool, edit, find, held, noPool, noSlot, vacant, wipe}
+use Rattle.store.specs.Promise.{Does}
+use Rattle.store.specs.Refusals.{deletedPaper}
+use Rattle.store.specs.View.{Leaves, view}
+use Rattle.store_laws.proofs.StaysSound.{delete-stays}
+use lib.ListN.{drop, drop-of-length-le, getD, length}
+use lib.Seq.{drop-cons}
+use mathlib.Core.List.{List, [], _∷_}
+use mathlib.Core.Path.{_∙_, _≡_, ap, refl}
+use native.Mathlib.Numerals.{add-one}
+use native.Mathlib.Omega.{arith}
+use Rattle.store.specs.declared.Setup.{Setup}
+use Rattle.store.specs.declared.Deleted.{Deleted}
+use Rattle.store.specs.declared.Deleted.the-variants as D
+
+pub record Going (su : Setup) (st₀ le₀ addrs st le : List ℕ) (gone i : ℕ) : Type 0 where
+  pub at-most : i ≤ length addrs
+  pub few : gone ≤ i
+  pub sound : Sound su st le
+  pub frame : Leaves su st₀ le₀ (view su st le) st le
+  pub goes : withoutAll (drop i addrs) (view su st le) ≡ withoutAll addrs (view su st₀ le₀)
+  pub counts : gone + countAll (drop i addrs) (view su st le) ≡ countAll addrs (view su st₀ le₀)
+
+pub going-first : (su : Setup) (st le addrs : List ℕ) → Sound su st le → Going su st le addrs st le 0 0
+going-first su st le addrs s = record { at-most = omega arith; few = omega arith; sound = s; frame = leaves-same su st le; goes = refl; counts = omega arith }
+
+-- the answer tells whether the packet was there
+pub count-is : (ps : List Pool) (a : ℕ) (r : Deleted) → deletedPaper r ≡ says (deleteIn ps a) → oneIfDone r ≡ one ps a
+unfolding deletedPaper deleteIn one after says ifHeld ifNamed
+count-is ps a r q = go (find ps a) r q
+  where
+    go : (x : Found) (r : Deleted) → deletedPaper r ≡ says (ifHeld a x (λ n b. done [] (edit wipe ps a)))
+        → oneIfDone r ≡ after (ifHeld a x (λ n b. done [] (edit wipe ps a))) 0 (λ qs. 1)
+    go noPool D.Done q = let z : _≡_ {A = ℕ} 0 16 = ap (λ (p : Paper). p .number) q in absurd (omega arith)
+    go noSlot D.Done q = let z : _≡_ {A = ℕ} 0 17 = ap (λ (p : Paper). p .number) q in absurd (omega arith)
+    go vacant D.Done q = let z : _≡_ {A = ℕ} 0 18 = ap (λ (p : Paper). p .number) q in absurd (omega arith)
+    go (held n b) D.Done q = refl
+    go noPool (D.Refused e) q = refl
+    go noSlot (D.Refused e) q = refl
+    go vacant (D.Refused e) q = refl
+    go (held n b) (D.Refused e) q = absurd (not-done e [] q)
+
+pub going-next : (su : Setup) (st₀ le₀ addrs st le : List ℕ) (gone i : ℕ) → Going su st₀ le₀ addrs st le gone i → i < length addrs
+    → (r : Deleted) (o : ℕ) (st′ le′ : List ℕ)
+    → Does su st le (λ ps. deleteIn ps (getD addrs i 0)) (deletedPaper r) st′ le′ → o ≡ oneIfDone r → o ≤ 1 → Going su st₀ le₀ addrs st′ le′ (gone + o) (i + 1)
+unfolding withoutAll countAll
+going-next su st₀ le₀ addrs st le gone i g l r o st′ le′ d e f =
+    let x : drop i addrs ≡ getD addrs i 0 ∷ drop (i + 1) addrs = rw (add-one, drop-cons addrs i 0) in
+    let n : o ≡ one (view su st le) (getD addrs i 0) = e ∙ count-is (view su st le) (getD addrs i 0) r (d .answer) in
+    let c = rw x at (g .counts) in
+    let v : view su st′ le′ ≡ without (view su st le) (getD addrs i 0) = d .lists .seen in
+    let w : countAll (drop (i + 1) addrs) (view su st′ le′) ≡ countAll (drop (i + 1) addrs) (without (view su st le) (getD addrs i 0)) = ap (countAll (drop (i + 1) addrs)) v in
+    record {
+      at-most = omega arith;
+      few = omega (arith, g .few);
+      sound = delete-stays su st le (g .sound) (getD addrs i 0) (deletedPaper r) st′ le′ d;
+      frame = leaves-then su st₀ le₀ (view su st le) (view su st′ le′) st le st′ le′ (g .frame) (leaves-now su st le _ st′ le′ (d .lists));
+      goes = ap (withoutAll (drop (i + 1) addrs)) v ∙ rw x at (g .goes);
+      counts = omega arith;
+    }
+
+pub going-last : (su : Setup) (st₀ le₀ addrs st le : List ℕ) (gone i : ℕ) → Going su st₀ le₀ addrs st le gone i → length addrs ≤ i
+    → Does su st₀ le₀ (sweepIn addrs) (no 0 (gone ∷ [])) st le
+unfolding withoutAll countAll sweepIn says after
+going-last su st₀ le₀ addrs st le gone i g l =
+    let x : drop i addrs ≡ [] = drop-of-length-le addrs l in
+    let c = rw x at (g .counts) in
+    let n : gone ≡ countAll addrs (view su st₀ le₀) = omega arith in
+    record {
+      answer = ap (λ (m : ℕ). no 0 (m ∷ [])) n;
+      lists = leaves-as su st₀ le₀ _ _ st le (rw x at (g .goes)) (g .frame);
+    }

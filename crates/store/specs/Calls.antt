@@ -1,0 +1,69 @@
+-- What each call comes to, in the paper's numbers and by the store's rules.
+use Prim.Native.Nat.{ℕ}
+use Rattle.rules.specs.Papers.{Outcome, done, no, refused}
+use Rattle.rules.specs.Tests.{unless}
+use Rattle.store.specs.Address.{addressOf, poolOf, slotOf}
+use Rattle.store.specs.Judge.{judged, sized}
+use Rattle.store.specs.Layout.{sizeAt, slotsAt}
+use Rattle.store.specs.Pools.{Choice, Found, Pool, allTaken, choose, edit, editAt, fill, find, free, held, into, noPool, noSlot, over, tooLarge, vacant, wipe}
+use Rattle.store.specs.View.{each, view}
+use lib.Dec.{leb}
+use lib.ListN.{length, replicate, take}
+use mathlib.Core.Bool.{Bool}
+use mathlib.Core.List.{List, [], _∷_}
+use Rattle.store.specs.declared.Setup.{Setup}
+
+-- 16 and 17, and else what a free slot gives, or what f makes of the packet
+unfoldable pub ifNamed : {A : Type 0} → ℕ → Found → Outcome A → (ℕ → List ℕ → Outcome A) → Outcome A
+ifNamed a noPool v f = refused (no 16 (poolOf a ∷ []))
+ifNamed a noSlot v f = refused (no 17 (slotOf a ∷ []))
+ifNamed a vacant v f = v
+ifNamed a (held n b) v f = f n b
+
+-- a free slot is 18
+unfoldable pub ifHeld : {A : Type 0} → ℕ → Found → (ℕ → List ℕ → Outcome A) → Outcome A
+ifHeld a x f = ifNamed a x (refused (no 18 (addressOf (poolOf a) (slotOf a) ∷ []))) f
+
+-- delete: the slot is wiped
+unfoldable pub deleteIn : List Pool → ℕ → Outcome (List Pool)
+deleteIn ps a = ifHeld a (find ps a) (λ n b. done [] (edit wipe ps a))
+
+-- add: 11, 12, and else the packet goes to the chosen slot, whose address is answered
+unfoldable pub place : List Pool → List ℕ → Choice → Outcome (List Pool)
+place ps d tooLarge = refused (no 11 (length d ∷ []))
+place ps d (allTaken k) = refused (no 12 (k ∷ []))
+place ps d (into k i) = done (addressOf k i ∷ []) (editAt (fill d) ps k i)
+
+unfoldable pub addIn : Bool → List Pool → List ℕ → Outcome (List Pool)
+addIn spill ps d = place ps d (choose spill ps (length d))
+
+-- the packet that an address names: its length and its bytes. It is what `modify` answers and lends
+unfoldable pub packetIn : List Pool → ℕ → Outcome (List ℕ)
+packetIn ps a = ifHeld a (find ps a) (λ n b. done (n ∷ []) (take n b))
+
+-- read: 19 where the buffer is below the length; else the packet goes to its front
+unfoldable pub readIn : List Pool → ℕ → List ℕ → Outcome (List ℕ)
+readIn ps a buf =
+    ifHeld a (find ps a)
+    (λ n b. unless (leb n (length buf)) (refused (no 19 (length buf ∷ n ∷ []))) (done (n ∷ []) (over (take n b) buf)))
+
+-- presence and length: a free slot has no element, and length 0
+unfoldable pub hasIn : List Pool → ℕ → Outcome (Unit {0})
+hasIn ps a = ifNamed a (find ps a) (done (0 ∷ []) tt) (λ n b. done (1 ∷ []) tt)
+
+unfoldable pub lenIn : List Pool → ℕ → Outcome (Unit {0})
+lenIn ps a = ifNamed a (find ps a) (done (0 ∷ []) tt) (λ n b. done (n ∷ []) tt)
+
+-- every public call judges first: 1, 2, 3
+unfoldable pub judging : {A : Type 0} → Setup → List ℕ → List ℕ → (List Pool → Outcome A) → Outcome A
+judging su st le call = judged su (length st) le (call (view su st le))
+
+-- a fresh start: it zeroes the store and marks every slot free. It knows 1 and 2 alone
+abbrev pub freshPool : Setup → ℕ → Pool
+freshPool su k = record { size = sizeAt su k; slots = replicate (slotsAt su k) (free (replicate (sizeAt su k) 0)) }
+
+unfoldable pub freshPools : Setup → List Pool
+freshPools su = each (freshPool su) 0 (su .pools)
+
+unfoldable pub freshIn : Setup → List ℕ → List ℕ → Outcome (List Pool)
+freshIn su st le = sized su (length st) (length le) (done [] (freshPools su))

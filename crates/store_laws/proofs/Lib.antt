@@ -1,0 +1,13 @@
+-- The store's laws: OneOutcome, RefusalKeeps, StaysSound, ReadBack, OthersStay, OneToOne, Worked. The other files help them.
+pub mod Fitting
+pub mod Elsewhere
+pub mod Reached
+pub mod Back
+pub mod OneToOne
+pub mod OneOutcome
+pub mod RefusalKeeps
+pub mod StaysSound
+pub mod OthersStay
+pub mod Keeping
+pub mod ReadBack
+pub mod Worked

@@ -1,0 +1,34 @@
+-- A refusal, an answer whose number is above 0, changes no lent byte.
+use Prim.Native.Nat.{ℕ}
+use Rattle.rules.proofs.Order.{refusal-keeps}
+use Rattle.rules.specs.Papers.{Outcome, Paper, after, says}
+use Rattle.store.proofs.Promises.{writes}
+use Rattle.store.specs.Calls.{judging, packetIn}
+use Rattle.store.specs.Judge.{Sound}
+use Rattle.store.specs.Pools.{Pool}
+use Rattle.store.specs.Promise.{Does, Reads, Writes}
+use Rattle.store.specs.View.{lensWith, storeWith}
+use mathlib.Core.List.{List, []}
+use mathlib.Core.Path.{_∙_, _≡_, ap}
+use Rattle.store.specs.declared.Setup.{Setup}
+
+-- `add`, `delete`, `fresh`
+pub call-keeps : (su : Setup) (st le : List ℕ) (o : Outcome (List Pool)) (p : Paper) (st′ le′ : List ℕ) → Writes su st le o p st′ le′
+    → (p .number ≡ 0 → ⊥) → (st′ ≡ st) × (le′ ≡ le)
+call-keeps su st le o p st′ le′ w n =
+    let m : says o .number ≡ 0 → ⊥ = λ e. n (ap (λ (x : Paper). x .number) (w .answer) ∙ e) in
+    (w .store ∙ refusal-keeps o st (storeWith su st) m, w .lens ∙ refusal-keeps o le (lensWith su le) m)
+
+-- `read`
+pub read-keeps : (o : Outcome (List ℕ)) (buf : List ℕ) (p : Paper) (buf′ : List ℕ) → Reads o buf p buf′ → (p .number ≡ 0 → ⊥) → buf′ ≡ buf
+read-keeps o buf p buf′ w n = w .buffer ∙ refusal-keeps o buf (λ b. b) (λ e. n (ap (λ (x : Paper). x .number) (w .answer) ∙ e))
+
+-- `modify_part` lends nothing where `modify` refuses
+pub part-empty : (su : Setup) (st le : List ℕ) (a : ℕ) → (says (judging su st le (λ ps. packetIn ps a)) .number ≡ 0 → ⊥)
+    → after (judging su st le (λ ps. packetIn ps a)) [] (λ b. b) ≡ []
+part-empty su st le a n = refusal-keeps (judging su st le (λ ps. packetIn ps a)) [] (λ b. b) n
+
+-- judged calls
+pub judged-keeps : (su : Setup) (st le : List ℕ) (call : List Pool → Outcome (List Pool)) → Sound su st le → (p : Paper) (st′ le′ : List ℕ)
+    → Does su st le call p st′ le′ → (p .number ≡ 0 → ⊥) → (st′ ≡ st) × (le′ ≡ le)
+judged-keeps su st le call s p st′ le′ w n = call-keeps su st le (judging su st le call) p st′ le′ (writes su st le call p st′ le′ s w) n

@@ -1,0 +1,45 @@
+-- A sound store stays sound under every call.
+-- `read`, `modify`, presence and length are lent both lists for reading alone; so is `modify_part` its length table.
+use Prim.Native.Nat.{ℕ}
+use Rattle.rules.specs.Papers.{Paper}
+use Rattle.store.specs.Calls.{addIn, deleteIn, freshIn, freshPools, judging}
+use Rattle.store.specs.Judge.{Sized, Sound}
+use Rattle.store.specs.Pools.{find, held}
+use Rattle.store.specs.Promise.{Does, Writes, startOf}
+use Rattle.store.specs.Refusals.{startedPaper}
+use Rattle.store.specs.View.{Leaves, put, view}
+use Rattle.store_laws.proofs.Fitting.{add-fits, delete-fits, fresh-fits, rewrite-fits, sound-of, view-fits}
+use Rattle.store_laws.proofs.Reached.{add-done, delete-done, fresh-made, modify-leaves, sized-of}
+use lib.ListN.{length}
+use mathlib.Core.List.{List}
+use mathlib.Core.Path.{_≡_}
+use Rattle.store.specs.declared.Setup.{Setup}
+use Rattle.store.specs.declared.Started.the-variants as St
+
+module _ (su : Setup) (st le : List ℕ) (s : Sound su st le) where
+  pub add-stays : (d : List ℕ) (p : Paper) (st′ le′ : List ℕ) → Does su st le (λ ps. addIn (su .spill) ps d) p st′ le′ → Sound su st′ le′
+  add-stays d p st′ le′ w = sound-of su st le _ st′ le′ (sized-of s) (w .lists) (add-fits (su .spill) (view su st le) d (view-fits su st le s))
+
+  pub delete-stays : (a : ℕ) (p : Paper) (st′ le′ : List ℕ) → Does su st le (λ ps. deleteIn ps a) p st′ le′ → Sound su st′ le′
+  delete-stays a p st′ le′ w = sound-of su st le _ st′ le′ (sized-of s) (w .lists) (delete-fits (view su st le) a (view-fits su st le s))
+
+  -- the same of the public calls
+  pub public-add-stays : (d : List ℕ) (p : Paper) (st′ le′ : List ℕ)
+      → Writes su st le (judging su st le (λ ps. addIn (su .spill) ps d)) p st′ le′ → Sound su st′ le′
+  public-add-stays d p st′ le′ w = add-stays d p st′ le′ (add-done su st le s d p st′ le′ w)
+
+  pub public-delete-stays : (a : ℕ) (p : Paper) (st′ le′ : List ℕ)
+      → Writes su st le (judging su st le (λ ps. deleteIn ps a)) p st′ le′ → Sound su st′ le′
+  public-delete-stays a p st′ le′ w = delete-stays a p st′ le′ (delete-done su st le s a p st′ le′ w)
+
+  -- ys was written through the part that `modify_part` lends at an address that holds a packet
+  pub modify-stays : (a n : ℕ) (raw ys : List ℕ) → find (view su st le) a ≡ held n raw → length ys ≡ n → Sound su (put (startOf su a) n ys st) le
+  modify-stays a n raw ys q e =
+      sound-of su st le _ _ le (sized-of s) (modify-leaves su st le s a n raw ys q e) (rewrite-fits (view su st le) a ys (view-fits su st le s))
+
+-- a fresh start that is not refused makes any two lists sound
+pub judged-fresh-sound : (su : Setup) (st le st′ le′ : List ℕ) → Sized su st le → Leaves su st le (freshPools su) st′ le′ → Sound su st′ le′
+judged-fresh-sound su st le st′ le′ s l = sound-of su st le (freshPools su) st′ le′ s l (fresh-fits su)
+
+pub fresh-sound : (su : Setup) (st le st′ le′ : List ℕ) → Writes su st le (freshIn su st le) (startedPaper St.Done) st′ le′ → Sound su st′ le′
+fresh-sound su st le st′ le′ w = let f = fresh-made su st le st′ le′ w in judged-fresh-sound su st le st′ le′ (f .0) (f .1)

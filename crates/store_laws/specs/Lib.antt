@@ -1,0 +1,2 @@
+-- The words of the store's laws.
+pub mod Requests
