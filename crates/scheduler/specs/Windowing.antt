@@ -1,6 +1,6 @@
 -- Windows of time given as arguments: 4, 15, and retrieval. An end that a window has not is not looked at.
 use Prim.Native.Nat.{ℕ}
-use lib.Dec.{leb}
+use lib.Dec.{leb, ltb}
 use lib.ListN.{length}
 use mathlib.Core.Bool.{Bool, _&&_, true}
 use mathlib.Core.List.{[], _∷_}

@@ -1,4 +1,4 @@
--- The store's laws: OneOutcome, RefusalKeeps, StaysSound, ReadBack, OthersStay, OneToOne, Worked. The other files help them.
+-- The store's laws: OneOutcome, RefusalKeeps, StaysSound, ReadBack, OthersStay, OneToOne. The other files help them.
 pub mod Fitting
 pub mod Elsewhere
 pub mod Reached
@@ -10,4 +10,3 @@ pub mod StaysSound
 pub mod OthersStay
 pub mod Keeping
 pub mod ReadBack
-pub mod Worked

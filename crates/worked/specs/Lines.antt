@@ -1,5 +1,5 @@
 -- Document 01's worked lines marked T, in its order, as one table, and one statement over it: each comes of the definitions.
--- To come with their layers: subpool 1, slot 3; address 256; the log of P.
+-- To come with its layer: the log of P.
 use Prim.Native.Nat.{ℕ}
 use mathlib.Core.Bool.{Bool, false, true}
 use mathlib.Core.List.{List, [], _∷_}
@@ -8,6 +8,7 @@ use lib.IntN.{negsuc, pos}
 use Rattle.check_code.specs.CheckCode.{checkCode, feed, shift}
 use Rattle.rules.specs.Tests.{unless}
 use Rattle.stamp.specs.Stamp.{stampAt, stampOf}
+use Rattle.store.specs.Address.{addressOf, poolOf, slotOf}
 use Rattle.time.specs.Time.{earliest, inTimeMargin, instant}
 use Rattle.words.specs.Words.{number}
 use Rattle.stamp.specs.declared.Stamp.{Stamp}
@@ -23,6 +24,10 @@ pub data Line : Type 0 where
   early : UnixTime → Margin → UnixTime → Bool → Line
   -- clock and margin: the earliest release
   first : UnixTime → Margin → UnixTime → Line
+  -- subpool and slot, and the address that they have
+  encode : ℕ → ℕ → ℕ → Line
+  -- an address, and the subpool and slot that it names
+  decode : ℕ → ℕ → ℕ → Line
   -- bytes, and their check code
   code : List ℕ → ℕ → Line
 
@@ -30,6 +35,8 @@ abbrev pub Holds : Line → Type 0
 Holds (stamp s r) = stampOf s ≡ r
 Holds (early c m r b) = inTimeMargin c m r ≡ b
 Holds (first c m r) = earliest c m ≡ instant r
+Holds (encode k i a) = addressOf k i ≡ a
+Holds (decode a k i) = (poolOf a ≡ k) × (slotOf a ≡ i)
 Holds (code s n) = checkCode s ≡ n
 
 abbrev pub Every : List Line → Type 0
@@ -60,10 +67,13 @@ lines =
     early (at 100 0) (margin 5 0) (at 104 999999999) true ∷
     -- clock 0 s 600,000,000 ns, margin 0 s 500,000,000 ns: earliest is 1 s 100,000,000 ns
     first (at 0 600000000) (margin 0 500000000) (at 1 100000000) ∷
+    -- subpool 1, slot 3: address 65,539. Address 256: subpool 0, slot 0
+    encode 1 3 65539 ∷
+    decode 256 0 0 ∷
     -- check code of the ASCII digits 1 to 9: 0x29B1
     code (49 ∷ 50 ∷ 51 ∷ 52 ∷ 53 ∷ 54 ∷ 55 ∷ 56 ∷ 57 ∷ []) 0x29B1 ∷
     []
 
 pub worked : Every lines
 unfolding checkCode feed number shift stampAt stampOf unless
-worked = (refl, (refl, (refl, (refl, (refl, (refl, (refl, (refl, (refl, tt)))))))))
+worked = (refl, (refl, (refl, (refl, (refl, (refl, (refl, (refl, (refl, ((refl, refl), (refl, tt)))))))))))
