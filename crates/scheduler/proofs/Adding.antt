@@ -38,10 +38,10 @@ use Rattle.scheduler.proofs.Gates.{enters}
 use Rattle.scheduler.proofs.Promises.{does-done}
 
 -- a refusal of `add` has a number
-refused-number : {A : Type 0} (p q : Paper) → _≡_ {A = Outcome A} (refused p) (refused q) → p .number ≡ q .number
+pub refused-number : {A : Type 0} (p q : Paper) → _≡_ {A = Outcome A} (refused p) (refused q) → p .number ≡ q .number
 refused-number p q e = cc
 
-no-answer : {A : Type 0} (vs : List ℕ) (x : A) (p : Paper) → done vs x ≡ refused p → ⊥
+pub no-answer : {A : Type 0} (vs : List ℕ) (x : A) (p : Paper) → done vs x ≡ refused p → ⊥
 no-answer vs x p e = let z : _≡_ {A = ℕ} 0 1 = cc in omega arith
 
 add-numbered : (spill : Bool) (ps : List Pool) (d : List ℕ) (p : Paper) → addIn spill ps d ≡ refused p → p .number ≡ 0 → ⊥

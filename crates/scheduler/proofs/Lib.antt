@@ -12,3 +12,4 @@ pub mod Activities
 pub mod Wrapping
 pub mod Sweeping
 pub mod Clearing
+pub mod Taking

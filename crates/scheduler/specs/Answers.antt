@@ -5,6 +5,10 @@ use Rattle.rules.specs.Papers.{Paper, no}
 use Rattle.store.specs.Refusals.{paper as storePaper}
 use Rattle.scheduler.specs.declared.Counted.{Counted}
 use Rattle.scheduler.specs.declared.Counted.the-variants as Co
+use Rattle.scheduler.specs.declared.FreeAnswer.{FreeAnswer}
+use Rattle.scheduler.specs.declared.FreeAnswer.the-variants as F
+use Rattle.scheduler.specs.declared.TakeAnswer.{TakeAnswer}
+use Rattle.scheduler.specs.declared.TakeAnswer.the-variants as Ta
 use Rattle.scheduler.specs.declared.InsertAnswer.{InsertAnswer}
 use Rattle.scheduler.specs.declared.InsertAnswer.the-variants as I
 use Rattle.scheduler.specs.declared.ClearAnswer.{ClearAnswer}
@@ -40,3 +44,15 @@ lastPaper (La.Missing e) = storePaper e
 unfoldable pub clearedPaper : ClearAnswer → Paper
 clearedPaper (Cl.Done t) = no 0 (t .deleted ∷ t .missing ∷ lastPaper (t .last) .number ∷ lastPaper (t .last) .values)
 clearedPaper (Cl.Refused e) = paper e
+
+-- by request ID: 0 for no match; 1 and the address; 1 and 1; 1, 0 and the store's refusal
+unfoldable pub takenPaper : TakeAnswer → Paper
+takenPaper Ta.NoMatch = no 0 (0 ∷ [])
+takenPaper (Ta.Address a) = no 0 (1 ∷ a ∷ [])
+takenPaper (Ta.Refused e) = paper e
+
+unfoldable pub freedPaper : FreeAnswer → Paper
+freedPaper F.NoMatch = no 0 (0 ∷ [])
+freedPaper F.Deleted = no 0 (1 ∷ 1 ∷ [])
+freedPaper (F.Missing e) = no 0 (1 ∷ 0 ∷ storePaper e .number ∷ storePaper e .values)
+freedPaper (F.Refused e) = paper e

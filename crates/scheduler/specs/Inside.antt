@@ -34,6 +34,8 @@ use Rattle.store.specs.View.{Leaves, view}
 use Rattle.table.specs.Edits.{without}
 use Rattle.table.specs.declared.Part.{Part}
 use Rattle.scheduler.specs.Deleting.{Swept, clearIn, sweep, unswept}
+use Rattle.scheduler.specs.declared.FreeAnswer.{FreeAnswer}
+use Rattle.scheduler.specs.declared.FreeAnswer.the-variants as F
 use Rattle.scheduler.specs.declared.Verdict.{Verdict}
 use Rattle.scheduler.specs.declared.Verdict.the-variants.{Fine, Refused}
 
@@ -97,3 +99,8 @@ clearPart p b s =
 
 abbrev pub leftOf : Record → ℕ → Bool → Record
 leftOf r n b = record { count = r .count - n; clock = r .clock; margin = r .margin; enabled = b }
+
+-- what the store's answer to a deletion becomes
+abbrev pub freedOf : Deleted → FreeAnswer
+freedOf D.Done = F.Deleted
+freedOf (D.Refused e) = F.Missing e

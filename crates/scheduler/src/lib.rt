@@ -11,12 +11,13 @@ ghost use mathlib.Core.Path.{_≡_};
 ghost use Rattle.rules.specs.Papers.{says};
 ghost use Rattle.scheduler.specs.Judge.{judging};
 ghost use Rattle.record.specs.Refusals.{donePaper};
-ghost use Rattle.scheduler.specs.Answers.{clearedPaper, countedPaper, insertedPaper, retrievedPaper};
-ghost use Rattle.scheduler.specs.Deleting.{deleteWindowIn, resetIn};
+ghost use Rattle.scheduler.specs.Answers.{clearedPaper, countedPaper, freedPaper, insertedPaper, retrievedPaper, takenPaper};
+ghost use Rattle.scheduler.specs.Deleting.{deleteByIdIn, deleteKeepingIn, deleteWindowIn, resetIn};
 ghost use Rattle.scheduler.specs.Inserting.{insertStoredIn, insertUnwrappedIn, insertWrappedIn};
 ghost use Rattle.scheduler.specs.Promise.{Writes};
 ghost use Rattle.scheduler.specs.Windowing.{countIn, retrieveIn};
 
+pub mod by_id;
 pub mod deleting;
 mod gate;
 pub mod inserting;
@@ -87,6 +88,31 @@ pub enum ClearAnswer {
 pub struct Cleared {
     pub next: Record,
     pub answer: ClearAnswer,
+}
+
+// What the deletion by request ID answers that keeps the packet: its address as it was inserted.
+pub enum TakeAnswer {
+    NoMatch,
+    Address(u64),
+    Refused(ScheduleRefusal),
+}
+
+pub struct Taken {
+    pub next: Record,
+    pub answer: TakeAnswer,
+}
+
+// What the one answers that deletes the packet too: that it did, or the store's refusal for a packet that was missing.
+pub enum FreeAnswer {
+    NoMatch,
+    Deleted,
+    Missing(StoreRefusal),
+    Refused(ScheduleRefusal),
+}
+
+pub struct Freed {
+    pub next: Record,
+    pub answer: FreeAnswer,
 }
 
 // How many entries there are. It judges everything, as every call but those on the record alone does.
@@ -236,5 +262,58 @@ pub fn reset(
             answer: ClearAnswer::Refused(e),
         },
         Verdict::Fine => deleting::reset(setup, rec, store, lens, rows),
+    }
+}
+
+// The entry of a request ID goes, and its packet stays.
+pub fn delete_by_request_id(
+    setup: Setup,
+    rec: Record,
+    store: &[u8],
+    lens: &[u16],
+    rows: &mut [u64],
+    request_id: u64,
+) -> Taken
+    ensures { λ c. ⌜ Writes setup rec (now (store .entry)) (now (lens .entry)) (now (rows .entry))
+        (judging setup rec (now (store .entry)) (now (lens .entry)) (now (rows .entry)) (deleteKeepingIn «request_id»))
+        (takenPaper (c .answer)) (c .next) (now (store .entry)) (now (lens .entry)) (now (rows .exit)) ⌝ }
+{
+    let j = judge::judge(setup, rec, store, lens, rows);
+    match j {
+        Verdict::Refused(e) => Taken {
+            next: rec,
+            answer: TakeAnswer::Refused(e),
+        },
+        Verdict::Fine => by_id::delete_by_request_id(setup, rec, store, lens, rows, request_id),
+    }
+}
+
+// The entry of a request ID goes, and its packet with it.
+pub fn delete_by_request_id_and_from_pool(
+    setup: Setup,
+    rec: Record,
+    store: &mut [u8],
+    lens: &mut [u16],
+    rows: &mut [u64],
+    request_id: u64,
+) -> Freed
+    ensures { λ c. ⌜ Writes setup rec (now (store .entry)) (now (lens .entry)) (now (rows .entry))
+        (judging setup rec (now (store .entry)) (now (lens .entry)) (now (rows .entry)) (deleteByIdIn «request_id»))
+        (freedPaper (c .answer)) (c .next) (now (store .exit)) (now (lens .exit)) (now (rows .exit)) ⌝ }
+{
+    let j = judge::judge(setup, rec, store, lens, rows);
+    match j {
+        Verdict::Refused(e) => Freed {
+            next: rec,
+            answer: FreeAnswer::Refused(e),
+        },
+        Verdict::Fine => by_id::delete_by_request_id_and_from_pool(
+            setup,
+            rec,
+            store,
+            lens,
+            rows,
+            request_id,
+        ),
     }
 }
