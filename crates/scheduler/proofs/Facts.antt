@@ -10,7 +10,7 @@ use mathlib.Core.Path.{_≡_}
 use Rattle.record.specs.declared.Record.{Record}
 use Rattle.rules.proofs.All.{all-each, and-left, and-right}
 use Rattle.store.proofs.Bounds.{buffers-fit}
-use Rattle.store.specs.Judge.{Sound as StoreSound, setupOk as storeSetupOk}
+use Rattle.store.specs.Judge.{Sized, Sound as StoreSound, setupOk as storeSetupOk}
 use Rattle.table.specs.Entries.{unpack, width}
 use Rattle.table.specs.Order.{mostEntries, ordered, Sound as TableSound}
 use Rattle.time.proofs.Judged.{margin-judged, time-judged}
@@ -60,3 +60,8 @@ unfolding buffersOk
 long-enough su room lens rows p q =
     let b = all-each _ q in
     record { setup = p; lens-fit = buffers-fit (su .store) room lens (b .0) .1; rows-fit = leb-true _ _ (b .1 .0) }
+
+-- the store's part of 1 and 2
+pub store-sized : (su : Setup) (st le : List ℕ) (rows : ℕ) → setupOk su ≡ true → buffersOk su (length st) (length le) rows ≡ true → Sized (su .store) st le
+unfolding setupOk buffersOk
+store-sized su st le rows p q = record { setup = all-each _ p .0; buffers = all-each _ q .0 }

@@ -13,3 +13,4 @@ pub mod Wrapping
 pub mod Sweeping
 pub mod Clearing
 pub mod Taking
+pub mod Starting

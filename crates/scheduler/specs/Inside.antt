@@ -14,12 +14,14 @@ use Rattle.table.specs.Entries.{Entry, width}
 use Rattle.table.specs.Windows.{EndsInRange}
 use Rattle.table.specs.declared.TimeWindow.{TimeWindow}
 use Rattle.time.specs.Time.{inTimeMargin}
+use Rattle.time.specs.declared.Margin.{Margin}
 use Rattle.time.specs.declared.UnixTime.{UnixTime}
 use Rattle.scheduler.specs.Answers.{lastPaper, verdictPaper}
-use Rattle.scheduler.specs.Judge.{judging, setupOk}
+use Rattle.scheduler.specs.Judge.{buffersOk, judging, setupOk}
 use Rattle.scheduler.specs.Inserting.{enter}
 use Rattle.scheduler.specs.State.{State, recordOf}
 use Rattle.scheduler.specs.declared.Setup.{Setup}
+use Rattle.scheduler.specs.Starting.{freshState, startIn}
 use Rattle.scheduler.specs.Windowing.{windowed}
 use Rattle.scheduler.specs.declared.Window.{Window}
 use Rattle.scheduler.specs.declared.windows.Opened.{Opened}
@@ -104,3 +106,19 @@ leftOf r n b = record { count = r .count - n; clock = r .clock; margin = r .marg
 abbrev pub freedOf : Deleted → FreeAnswer
 freedOf D.Done = F.Deleted
 freedOf (D.Refused e) = F.Missing e
+
+-- the fresh start's 1, 2 and 4: none is given, or which
+abbrev pub startRecord : UnixTime → Margin → Record
+startRecord clock margin = record { count = 0; clock = clock; margin = margin; enabled = true }
+
+unfoldable pub startedAs : Setup → UnixTime → Margin → Verdict → Outcome State
+startedAs su clock margin Fine = done [] (freshState su clock margin)
+startedAs su clock margin (Refused e) = refused (paper e)
+
+abbrev pub Passed : Setup → ℕ → ℕ → ℕ → Verdict → Type 0
+Passed su room lens rows Fine = (setupOk su ≡ true) × (buffersOk su room lens rows ≡ true)
+Passed su room lens rows (Refused e) = Unit {0}
+
+pub record StartJudges (su : Setup) (room lens rows : ℕ) (clock : UnixTime) (margin : Margin) (v : Verdict) : Type 0 where
+  pub same : startedAs su clock margin v ≡ startIn su room lens rows clock margin
+  pub passed : Passed su room lens rows v

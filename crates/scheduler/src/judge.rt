@@ -14,7 +14,7 @@ ghost use Rattle.scheduler.specs.Inside.{Judges, Long};
 // 1-4,096 entries.
 const MOST_ENTRIES: usize = 4096;
 
-fn setup_ok(setup: Setup) -> bool
+pub fn setup_ok(setup: Setup) -> bool
     ensures { λ r. ⌜ r ≡ setupOk setup ⌝ }
 {
     let s = setup.store;
@@ -28,7 +28,7 @@ fn setup_ok(setup: Setup) -> bool
     setup.entries <= MOST_ENTRIES
 }
 
-fn buffers_ok(setup: Setup, room: usize, lens: usize, rows: usize) -> bool
+pub fn buffers_ok(setup: Setup, room: usize, lens: usize, rows: usize) -> bool
     requires { ⌜ setupOk setup ≡ true ⌝ }
     ensures { λ r. ⌜ r ≡ buffersOk setup room lens rows ⌝ }
 {

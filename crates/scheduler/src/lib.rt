@@ -6,6 +6,7 @@ use record::ScheduleRefusal;
 use store::StoreRefusal;
 use table::Part;
 use table::TcInfo;
+use time::Margin;
 use time::UnixTime;
 ghost use mathlib.Core.Path.{_≡_};
 ghost use Rattle.rules.specs.Papers.{says};
@@ -15,6 +16,8 @@ ghost use Rattle.scheduler.specs.Answers.{clearedPaper, countedPaper, fr
 ghost use Rattle.scheduler.specs.Deleting.{deleteByIdIn, deleteKeepingIn, deleteWindowIn, resetIn};
 ghost use Rattle.scheduler.specs.Inserting.{insertStoredIn, insertUnwrappedIn, insertWrappedIn};
 ghost use Rattle.scheduler.specs.Promise.{Writes};
+ghost use Rattle.scheduler.specs.Starting.{Starts, startIn};
+ghost use lib.ListN.{length};
 ghost use Rattle.scheduler.specs.Windowing.{countIn, retrieveIn};
 
 pub mod by_id;
@@ -23,6 +26,7 @@ mod gate;
 pub mod inserting;
 mod judge;
 pub mod judged;
+mod start;
 mod sweep;
 mod windows;
 pub mod wrapped;
@@ -113,6 +117,39 @@ pub enum FreeAnswer {
 pub struct Freed {
     pub next: Record,
     pub answer: FreeAnswer,
+}
+
+// Every slot free, no entry, and enabled with the given clock and margin. It knows 1, 2 and 4 only, whatever the tables held.
+pub fn fresh_start(
+    setup: Setup,
+    rec: Record,
+    store: &mut [u8],
+    lens: &mut [u16],
+    rows: &mut [u64],
+    clock: UnixTime,
+    margin: Margin,
+) -> Changed
+    ensures { λ c. ⌜ Starts setup rec (now (store .entry)) (now (lens .entry)) (now (rows .entry))
+        (startIn setup (length (now (store .entry))) (length (now (lens .entry))) (length (now (rows .entry))) clock margin)
+        (donePaper (c .answer)) (c .next) (now (store .exit)) (now (lens .exit)) (now (rows .exit)) ⌝ }
+{
+    let j = start::judge_start(setup, store.len(), lens.len(), rows.len(), clock, margin);
+    match j {
+        Verdict::Refused(e) => Changed {
+            next: rec,
+            answer: Done::Refused(e),
+        },
+        Verdict::Fine => {
+            let s = setup.store;
+            let n = setup.entries;
+            store::judged::fresh(s, store, lens);
+            table::edit::remove(rows, n, 0, n);
+            Changed {
+                next: start::started(clock, margin),
+                answer: Done::Ok,
+            }
+        }
+    }
 }
 
 // How many entries there are. It judges everything, as every call but those on the record alone does.
