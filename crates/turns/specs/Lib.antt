@@ -1,0 +1,3 @@
+-- The turns of a tick.
+pub mod Turns
+pub mod Parts
