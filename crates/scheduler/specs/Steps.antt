@@ -8,12 +8,13 @@ use Rattle.rules.specs.Papers.{Outcome, Paper, after, done, refused, says}
 use Rattle.store.specs.Calls.{addIn, deleteIn, hasIn, lenIn, packetIn, readIn}
 use Rattle.store.specs.Pools.{Pool, edit, rewrite}
 use Rattle.time.specs.declared.UnixTime.{UnixTime}
-use Rattle.scheduler.specs.Deleting.{deleteByIdIn, deleteKeepingIn, deleteWindowIn, resetIn}
-use Rattle.scheduler.specs.Inserting.{insertStoredIn, insertUnwrappedIn, insertWrappedIn}
-use Rattle.scheduler.specs.State.{State, recordOf, withPools}
-use Rattle.scheduler.specs.Windowing.{countIn, retrieveIn}
-use Rattle.scheduler.specs.declared.Setup.{Setup}
-use Rattle.scheduler.specs.declared.Window.{Window}
+use Rattle.deletions.specs.Deleting.{deleteByIdIn, deleteKeepingIn, deleteWindowIn, resetIn}
+use Rattle.insertions.specs.Inserting.{insertStoredIn, insertUnwrappedIn, insertWrappedIn}
+use Rattle.schedule.specs.State.{State, recordOf, withPools}
+use Rattle.schedule.specs.Counting.{countIn}
+use Rattle.deletions.specs.Windowing.{retrieveIn}
+use Rattle.schedule.specs.declared.Setup.{Setup}
+use Rattle.deletions.specs.declared.Window.{Window}
 
 pub data Request : Type 0 where
   -- the store's own calls; `modify` with what is written through it, and `read` with the buffer that is lent
