@@ -13,7 +13,13 @@ mod measure;
 mod writing;
 
 // The log that the first entry's record needs alone.
-pub fn first_total(setup: store::Setup, store: &[u8], lens: &[u16], rows: &[u64], count: usize) -> usize
+pub fn first_total(
+    setup: store::Setup,
+    store: &[u8],
+    lens: &[u16],
+    rows: &[u64],
+    count: usize,
+) -> usize
     requires { ⌜ StoreSound setup (now store) (now lens) ⌝ }
     requires { ⌜ Held (now rows) count ⌝ }
     ensures { λ r. ⌜ r ≡ firstTotal (unpack count (now (rows .entry))) (view setup (now (store .entry)) (now (lens .entry))) ⌝ }

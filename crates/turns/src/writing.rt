@@ -21,5 +21,4 @@ pub fn hand_out(
     requires { ⌜ Roomy delete on (unpack m (now rows)) (view setup (now store) (now lens)) (now log) ⌝ }
     ensures { λ _. ⌜ Turns setup delete on (unpack m (now (rows .entry))) (now (store .entry)) (now (lens .entry)) (now (log .entry))
         (now (store .exit)) (now (lens .exit)) (now (log .exit)) ⌝ }
-{
-}
+{}

@@ -1,0 +1,3 @@
+-- Laws of the log's bytes.
+pub mod Putting
+pub mod Whole
