@@ -2,23 +2,22 @@
 -- Assumes nothing.
 use Prim.Native.Nat.{_+_, _-_, _<_, _≤_, min, ℕ}
 use lib.ListN.{drop, length, length-drop, take}
+use lib.Seq.{sets}
 use mathlib.Core.Bool.{Bool}
 use mathlib.Core.List.{List, [], _∷_}
 use mathlib.Core.Path.{_≡_, _∙_, ap, refl, sym}
 use native.Mathlib.Omega.{arith}
-use Rattle.record.specs.Refusals.{paper}
 use Rattle.record.specs.declared.Record.{Record}
-use Rattle.record.specs.declared.ScheduleRefusal.{ScheduleRefusal}
+use Rattle.log.specs.Log.{LogRecord, logBytes}
 use Rattle.rules.specs.Papers.{Outcome, Paper, after, done, into, no, refused}
 use Rattle.schedule.proofs.Promises.{does-done, does-refused}
-use Rattle.schedule.specs.Inside.{withCount}
-use Rattle.schedule.specs.State.{State, stateOf, withEntries, withPools}
+use Rattle.schedule.specs.State.{State, recordOf, stateOf, withCount, withEntries, withPools}
 use Rattle.schedule.specs.declared.Setup.{Setup}
 use Rattle.store.specs.Pools.{Pool}
 use Rattle.store.specs.View.{view}
 use Rattle.table.proofs.Rows.{length-unpack, take-unpack}
 use Rattle.table.proofs.Stays.{without-first}
-use Rattle.table.specs.Entries.{Entry, unpack}
+use Rattle.table.specs.Entries.{Entry, relaid, unpack}
 use Rattle.table.specs.Order.{below}
 use Rattle.tick.proofs.Lacking.{hands-out, lacks-first, short-log}
 use Rattle.tick.specs.Inside.{lack}
@@ -100,10 +99,29 @@ module _ (su : Setup) (r : Record) (st le ro log : List ℕ) (limit : ℕ) (dele
           ∙ below-drop (instant (r .clock) + 1) m es (omega (arith, w .some))
           ∙ ap (λ (x : ℕ). x - m) (sym ed)
 
-      whole : left (tickIn limit delete log s) ≡ done (m ∷ d - m ∷ []) (withEntries (h .left) (withPools (h .pools) s))
-      unfolding h handedOut into stateOf
-      whole = rw (hands-out limit delete log s t long lack-is none, count-is, remain-is)
+      next : State
+      next = withEntries (h .left) (withPools (h .pools) s)
 
-      pub tick-hands : TickDoes su r st le ro log (tickIn limit delete log) (no 0 (m ∷ d - m ∷ [])) (withCount (r .count - m) r) st′ le′ ro′ log′
-      unfolding after
-      tick-hands = ?
+      hands : tickIn limit delete log s ≡ handedOut log s h
+      unfolding h stateOf
+      hands = hands-out limit delete log s t long lack-is none
+
+      whole : left (tickIn limit delete log s) ≡ done (m ∷ (d - m) ∷ []) next
+      unfolding handedOut into next stateOf
+      whole = rw (hands, count-is, remain-is)
+
+      record-is : recordOf next ≡ withCount (r .count - m) r
+      unfolding next stateOf
+      record-is = rw length-left
+
+      pub tick-hands : TickDoes su r st le ro log (tickIn limit delete log) (no 0 (m ∷ (d - m) ∷ [])) (withCount (r .count - m) r) st′ le′ ro′ log′
+      unfolding after handedOut next
+      tick-hands =
+          record {
+            tables =
+                rw record-is at
+                (does-done su r st le ro (λ x. left (tickIn limit delete log x)) (m ∷ (d - m) ∷ []) next st′ le′ ro′ whole
+                (rw pools-are (w .turned .lists))
+                (w .moved ∙ ap (relaid ro (r .count)) (without-first m es ∙ sym left-is)));
+            log = rw hands (w .turned .wrote ∙ ap (λ (x : List LogRecord). sets log 0 (logBytes x)) (sym records-are));
+          }

@@ -40,7 +40,7 @@ pub fn tick(
         (judging setup rec (now (store .entry)) (now (lens .entry)) (now (rows .entry)) (tickIn limit delete (now (log .entry))))
         (tickPaper (c .answer)) (c .next) (now (store .exit)) (now (lens .exit)) (now (rows .exit)) (now (log .exit)) ⌝ }
 {
-    let j = schedule::judge::judge(setup, rec, store, lens, rows);
+    let j = schedule::judge(setup, rec, store, lens, rows);
     match j {
         Verdict::Refused(e) => judged::refuse(rec, e),
         Verdict::Fine => judged::tick(setup, rec, store, lens, rows, log, limit, delete),
