@@ -4,7 +4,7 @@ use mathlib.Core.Bool.{Bool, false, true}
 use mathlib.Core.List.{List, [], _∷_}
 use Rattle.record.specs.Record.{clockIn, markIn}
 use Rattle.record.specs.declared.Record.{Record}
-use Rattle.rules.specs.Papers.{Outcome, Paper, after, done, refused, says}
+use Rattle.rules.specs.Papers.{Outcome, Paper, after, into, says}
 use Rattle.store.specs.Calls.{addIn, deleteIn, hasIn, lenIn, packetIn, readIn}
 use Rattle.store.specs.Pools.{Pool, edit, rewrite}
 use Rattle.time.specs.declared.UnixTime.{UnixTime}
@@ -50,11 +50,6 @@ carried s o = record { answer = record { paper = says o; buffer = [] }; state = 
 -- one that changes nothing, with the buffer that it leaves
 unfoldable pub looked : {A : Type 0} → State → Outcome A → List ℕ → Stepped
 looked s o buf = record { answer = record { paper = says o; buffer = buf }; state = s }
-
--- what is left, put into the state
-unfoldable pub into : {A : Type 0} → (A → State) → Outcome A → Outcome State
-into f (refused p) = refused p
-into f (done vs x) = done vs (f x)
 
 abbrev pub withRecord : State → Record → State
 withRecord s r = record { pools = s .pools; entries = s .entries; clock = r .clock; margin = r .margin; enabled = r .enabled }
