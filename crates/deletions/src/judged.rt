@@ -1,8 +1,8 @@
 // Window retrieval for a caller that has judged: nothing is judged twice in one call.
 use crate::Retrieved;
 use crate::Window;
-use crate::windows::Opened;
 use crate::windows;
+use crate::windows::Opened;
 ghost use mathlib.Core.Path.{_≡_};
 ghost use Rattle.rules.specs.Papers.{says};
 ghost use Rattle.schedule.specs.State.{State};

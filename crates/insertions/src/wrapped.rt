@@ -1,7 +1,7 @@
 // The wrapped insertion, for a caller that has judged: the outer packet is opened, and its user data is a stamp and the command.
 use crate::Inserted;
-use crate::inserting::refuse;
 use crate::inserting;
+use crate::inserting::refuse;
 use packet::Header;
 use packet::Reading;
 use record::Record;
