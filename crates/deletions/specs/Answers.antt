@@ -1,40 +1,22 @@
--- Document 01's number and values for each answer of the schedule's calls: 0 for one that is no refusal.
+-- Document 01's number and values for each answer of windows and deletions: 0 for one that is no refusal.
 use mathlib.Core.List.{[], _∷_}
 use Rattle.record.specs.Refusals.{paper}
 use Rattle.rules.specs.Papers.{Paper, no}
 use Rattle.store.specs.Refusals.{paper as storePaper}
-use Rattle.schedule.specs.declared.Counted.{Counted}
-use Rattle.schedule.specs.declared.Counted.the-variants as Co
 use Rattle.deletions.specs.declared.FreeAnswer.{FreeAnswer}
 use Rattle.deletions.specs.declared.FreeAnswer.the-variants as F
 use Rattle.deletions.specs.declared.TakeAnswer.{TakeAnswer}
 use Rattle.deletions.specs.declared.TakeAnswer.the-variants as Ta
-use Rattle.insertions.specs.declared.InsertAnswer.{InsertAnswer}
-use Rattle.insertions.specs.declared.InsertAnswer.the-variants as I
 use Rattle.deletions.specs.declared.ClearAnswer.{ClearAnswer}
 use Rattle.deletions.specs.declared.ClearAnswer.the-variants as Cl
 use Rattle.deletions.specs.declared.Last.{Last}
 use Rattle.deletions.specs.declared.Last.the-variants as La
 use Rattle.deletions.specs.declared.Retrieved.{Retrieved}
 use Rattle.deletions.specs.declared.Retrieved.the-variants as R
-use Rattle.schedule.specs.declared.Verdict.{Verdict}
-use Rattle.schedule.specs.declared.Verdict.the-variants as Ve
-
-unfoldable pub verdictPaper : Verdict → Paper
-verdictPaper Ve.Fine = no 0 []
-verdictPaper (Ve.Refused e) = paper e
-
-unfoldable pub countedPaper : Counted → Paper
-countedPaper (Co.Count n) = no 0 (n ∷ [])
-countedPaper (Co.Refused e) = paper e
 
 unfoldable pub retrievedPaper : Retrieved → Paper
 retrievedPaper (R.Rows x) = no 0 (x .first ∷ x .number ∷ [])
 retrievedPaper (R.Refused e) = paper e
-
-unfoldable pub insertedPaper : InsertAnswer → Paper
-insertedPaper (I.Inserted i) = no 0 (i .addr ∷ i .«request_id» ∷ [])
-insertedPaper (I.Refused e) = paper e
 
 -- the last refusal for a missing packet; number 0 where none was missing
 unfoldable pub lastPaper : Last → Paper

@@ -40,6 +40,3 @@ windowed w call = unless (endsInRange w) (refused (no 4 [])) (unless (forward w)
 -- retrieval: first row and number of rows; row 0 where there are none
 unfoldable pub retrieveIn : Window → State → Outcome (Unit {0})
 retrieveIn w s = windowed w (λ tw. done (firstRow tw (s .entries) ∷ length (inWindow tw (s .entries)) ∷ []) tt)
-
-unfoldable pub countIn : State → Outcome (Unit {0})
-countIn s = done (length (s .entries) ∷ []) tt

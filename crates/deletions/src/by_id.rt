@@ -1,11 +1,11 @@
 // The deletions by request ID, for a caller that has judged: in the earliest release time that has a match, the last match goes.
 use crate::FreeAnswer;
 use crate::Freed;
-use crate::Setup;
 use crate::TakeAnswer;
 use crate::Taken;
-use crate::judged::with_count;
 use record::Record;
+use schedule::Setup;
+use schedule::with_count;
 use store::Deleted;
 ghost use mathlib.Core.Path.{_≡_};
 ghost use Rattle.deletions.specs.Answers.{freedPaper, takenPaper};

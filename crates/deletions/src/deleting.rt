@@ -1,12 +1,12 @@
 // The deletions of several entries for a caller that has judged: by window, and all of them.
 use crate::ClearAnswer;
 use crate::Cleared;
-use crate::Setup;
 use crate::Window;
 use crate::sweep::sweep;
 use crate::windows;
 use crate::windows::Opened;
 use record::Record;
+use schedule::Setup;
 use table::Part;
 ghost use Prim.Native.Nat.{_+_, _≤_};
 ghost use mathlib.Core.Path.{_≡_};

@@ -1,8 +1,8 @@
 // Refusals 13 and 14, which every insertion ends with: whether a release is late, and whether the schedule is full.
-use crate::Setup;
-use crate::Verdict;
 use record::Record;
 use record::ScheduleRefusal;
+use schedule::Setup;
+use schedule::Verdict;
 use time::UnixTime;
 ghost use Rattle.time.specs.Time.{InRange, MarginInRange};
 ghost use Rattle.insertions.specs.Inside.{Gate};

@@ -1,14 +1,14 @@
 // The insertions by bytes, for a caller that has judged: a command with its release time, and a wrapped one.
 use crate::InsertAnswer;
 use crate::Inserted;
-use crate::Setup;
-use crate::Verdict;
 use crate::gate;
-use crate::judged::with_count;
 use packet::Header;
 use packet::Reading;
 use record::Record;
 use record::ScheduleRefusal;
+use schedule::Setup;
+use schedule::Verdict;
+use schedule::with_count;
 use store::Added;
 use table::TcInfo;
 use time::UnixTime;

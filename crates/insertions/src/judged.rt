@@ -1,38 +1,17 @@
-// The calls for a caller that has judged: nothing is judged twice in one call.
-use crate::Retrieved;
-use crate::Setup;
-use crate::Verdict;
-use crate::Window;
+// The stored insertion for a caller that has judged: nothing is judged twice in one call.
 use crate::gate;
-use crate::windows;
-use crate::windows::Opened;
 use record::Changed;
 use record::Done;
 use record::Record;
 use record::ScheduleRefusal;
+use schedule::Setup;
+use schedule::Verdict;
+use schedule::with_count;
 use time::UnixTime;
-ghost use mathlib.Core.Path.{_≡_};
 ghost use Rattle.record.specs.Refusals.{donePaper};
-ghost use Rattle.rules.specs.Papers.{says};
-ghost use Rattle.table.specs.Entries.{unpack};
-ghost use Rattle.table.specs.Order.{Sound as TableSound};
-ghost use Rattle.deletions.specs.Answers.{retrievedPaper};
-ghost use Rattle.insertions.specs.Inserting.{insertStoredIn};
-ghost use Rattle.schedule.specs.State.{State, withCount};
 ghost use Rattle.schedule.specs.Judge.{Sound};
 ghost use Rattle.schedule.specs.Promise.{Does};
-ghost use Rattle.deletions.specs.Windowing.{retrieveIn};
-
-pub fn retrieve_by_time_filter(rows: &[u64], count: usize, w: Window) -> Retrieved
-    requires { ⌜ TableSound (now rows) count ⌝ }
-    ensures { λ r. ⌜ ((s : State) → s .entries ≡ unpack count (now (rows .entry)) → retrievedPaper r ≡ says (retrieveIn w s)) ⌝ }
-{
-    let o = windows::open(w);
-    match o {
-        Opened::Refused(e) => Retrieved::Refused(e),
-        Opened::At(x) => Retrieved::Rows(table::window::rows_in(rows, count, x)),
-    }
-}
+ghost use Rattle.insertions.specs.Inserting.{insertStoredIn};
 
 pub fn insert_unwrapped_and_stored_tc(
     setup: Setup,
@@ -70,18 +49,5 @@ pub fn insert_unwrapped_and_stored_tc(
                 answer: Done::Ok,
             }
         }
-    }
-}
-
-pub fn with_count(rec: Record, n: usize) -> Record
-    ensures { λ r. ⌜ r ≡ withCount n rec ⌝ }
-{
-    let clock = rec.clock;
-    let margin = rec.margin;
-    Record {
-        count: n,
-        clock: clock,
-        margin: margin,
-        enabled: rec.enabled,
     }
 }

@@ -1,12 +1,12 @@
 // The wrapped insertion, for a caller that has judged: the outer packet is opened, and its user data is a stamp and the command.
 use crate::Inserted;
-use crate::Setup;
 use crate::inserting;
 use crate::inserting::refuse;
 use packet::Header;
 use packet::Reading;
 use record::Record;
 use record::ScheduleRefusal;
+use schedule::Setup;
 use stamp::Stamp;
 ghost use mathlib.Core.Path.{_≡_};
 ghost use Rattle.packet.specs.Packet.{readOf, userDataOf};
