@@ -1,0 +1,3 @@
+-- The facts by which the turns of a tick are proved.
+pub mod Marking
+pub mod Measuring
