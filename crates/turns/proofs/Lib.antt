@@ -1,2 +1,3 @@
--- The proofs of the turns.
-pub mod Split
+-- The facts by which the turns of a tick are proved.
+pub mod Marking
+pub mod Measuring
