@@ -1,3 +1,4 @@
 -- The turns of a tick.
 pub mod Turns
 pub mod Parts
+pub mod Turned

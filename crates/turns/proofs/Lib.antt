@@ -1,0 +1,4 @@
+-- Laws of the turns.
+pub mod Handing
+pub mod Turning
+pub mod Room
