@@ -1,6 +1,6 @@
 -- The entries that fit do fit: how many they are, and what their log takes.
 -- Assumes nothing.
-use Prim.Native.Nat.{_*_, _+_, _≤_, suc, ℕ}
+use Prim.Native.Nat.{_*_, _+_, _<_, _≤_, suc, zero, ℕ}
 use Rattle.log.proofs.Whole.{length-more}
 use Rattle.log.specs.Log.{LogRecord, mostLogBytes, records, total}
 use Rattle.rules.specs.Tests.{unless}
@@ -9,10 +9,10 @@ use Rattle.store.specs.View.{view}
 use Rattle.store.specs.declared.Setup.{Setup}
 use Rattle.table.proofs.Rows.{length-unpack, take-unpack}
 use Rattle.table.specs.Edits.{without}
-use Rattle.table.specs.Entries.{Entry, relaid, unpack}
+use Rattle.table.specs.Entries.{Entry, relaid, row, unpack}
 use Rattle.turns.proofs.Turning.{length-turns}
-use Rattle.turns.specs.Parts.{Released, Roomy, Turns, fitting, turns}
-use Rattle.turns.specs.Turns.{always, handed, leave, need}
+use Rattle.turns.specs.Parts.{Released, Roomy, Turns, firstTotal, fitting, turns}
+use Rattle.turns.specs.Turns.{always, handed, leave, need, packetOf}
 use borrow.Author.Tests.{leb-true}
 use lib.Dec.{leb}
 use lib.ListN.{length, take}
@@ -71,3 +71,15 @@ module _ (su : Setup) (st le w log : List ℕ) (del on : Bool) (n cap m : ℕ) (
   pub released : (count : ℕ) (le₁ st′ le′ w′ log′ : List ℕ) → le₁ ≡ le → Turns su del on (unpack m w) st le₁ log st′ le′ log′
       → w′ ≡ relaid w count (without 0 m (unpack count w)) → Released su del on n cap count st le w log m st′ le′ w′ log′
   released count le₁ st′ le′ w′ log′ e t x = record { many = q; some = few; turned = rw e at t; moved = x }
+
+-- the first entry's record alone
+pub first-none : (count : ℕ) (w : List ℕ) (ps : List Pool) → count < 1 → 8 ≡ firstTotal (unpack count w) ps
+unfolding unpack
+first-none zero w ps h = refl
+first-none (suc n) w ps h = absurd (omega arith)
+
+pub first-is : (count : ℕ) (w : List ℕ) (ps : List Pool) (a n : ℕ) → 1 ≤ count → a ≡ row w 0 .addr → length (packetOf (find ps a)) ≡ n
+    → 29 + n ≡ firstTotal (unpack count w) ps
+unfolding unpack
+first-is zero w ps a n h q e = absurd (omega arith)
+first-is (suc k) w ps a n h q e = let f = rw q at e in omega (arith, f)

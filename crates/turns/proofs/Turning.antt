@@ -123,10 +123,10 @@ module _ (su : Setup) (st₀ le₀ log₀ w : List ℕ) (m : ℕ) (del on : Bool
       sum-more : at + 17 + length (r .packet) + length (records rs) ≡ total all
       sum-more = omega (arith, ap (λ (x : List LogRecord). length (records x)) rest-is, length-more r rs, k .sum)
 
-      pub turning-room : Roomy del on (unpack m w) (view su st₀ le₀) log₀
-          → (at + 17 + length (packetOf (find (view su st le) (row w i .addr))) ≤ length log)
-          × (at + 17 + length (packetOf (find (view su st le) (row w i .addr))) ≤ mostLogBytes)
-      turning-room y = (omega (arith, sum-more, y .holds, k .long), omega (arith, sum-more, y .small))
+      pub turning-room : (a : ℕ) → a ≡ row w i .addr → Roomy del on (unpack m w) (view su st₀ le₀) log₀
+          → (at + 17 + length (packetOf (find (view su st le) a)) ≤ length log)
+          × (at + 17 + length (packetOf (find (view su st le) a)) ≤ mostLogBytes)
+      turning-room a q y = rw q (omega (arith, sum-more, y .holds, k .long), omega (arith, sum-more, y .small))
 
       pub turning-next : (id a n : ℕ) (l₁ st′ le′ l₂ : List ℕ) → id ≡ row w i .id → a ≡ row w i .addr
           → l₁ ≡ sets log (8 + 4 * i) (bytesOf 4 at) → length l₂ ≡ length log

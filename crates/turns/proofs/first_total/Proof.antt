@@ -1,43 +1,33 @@
+-- `turns::first_total` meets its contract.
+-- Assumes nothing.
 use native.Mathlib.Omega.{arith}
 use borrow.Author.Needs.{needs}
+use Rattle.turns.proofs.Handing.{long-away, long-here, span-in}
+use Rattle.turns.proofs.Room.{first-is, first-none}
 use Rattle.turns.proofs.first_total.Statement.{statement}
 use Rattle.turns.proofs.first_total.Tie as tie
-use Rattle.turns.proofs.first_total.Reads as reads
-use Rattle.turns.proofs.first_total.Lts as lts
-use Rattle.store.proofs.judged.find.Reads as find-reads
-use Rattle.table.proofs.row.tc_info.Reads as tc-info-reads
 
--- src/lib.rt:30:9
 returns : tie.Need-returns
-returns c = search needs
+returns c = first-none _ _ _ (c .if1 .taken)
 
--- src/lib.rt:32:9
 tc-info-requires : tie.Need-tc-info-requires
-tc-info-requires c κs = search needs
+tc-info-requires c κs = (c .before .before .before .before .pre .1, omega arith)
 
--- src/lib.rt:33:9
 find-requires : tie.Need-find-requires
-find-requires c κs = search needs
+find-requires c κs = c .before .before .before .before .before .pre .0
 
--- src/lib.rt:35:36
-enum-told : tie.Need-enum-told
-enum-told c = search needs
-
--- src/lib.rt:36:25
-enum-known-w : tie.Need-enum-known-w
-enum-known-w c = search needs
-
--- src/lib.rt:36:31
 add-result : tie.Need-add-result
-add-result c = search needs
+add-result c = let h = span-in _ _ _ _ _ _ (c .before .before .before .before .find .ensures) (c .before .before .w .given .1) in omega (arith, h .1)
 
--- src/lib.rt:18:1
 returns-2 : tie.Need-returns-2
-returns-2 c = search needs
+returns-2 c =
+    first-is _ _ _ _ _ (c .before .before .before .before .if1 .left) (c .before .before .before .tc-info .ensures .1)
+    (long-away _ _ _ _ _ _ (c .before .before .find .ensures) (c .enum-told .given .1))
 
--- src/lib.rt:18:1
 returns-3 : tie.Need-returns-3
-returns-3 c = search needs
+returns-3 c =
+    first-is _ _ _ _ _ (c .before .before .before .before .before .before .if1 .left) (c .before .before .before .before .before .tc-info .ensures .1)
+    (long-here _ _ _ _ _ _ (c .before .before .before .before .find .ensures) (c .before .before .w .given .1))
 
 pub first-total-spec : {M : Type 1} → statement M
 first-total-spec =
@@ -46,8 +36,8 @@ first-total-spec =
     returns
     tc-info-requires
     find-requires
-    enum-told
-    enum-known-w
+    (λ c. search needs)
+    (λ c. search needs)
     add-result
     returns-2
     returns-3)

@@ -1,30 +1,15 @@
-use native.Mathlib.Omega.{arith}
+-- `turns::writing::drop_packet` meets its contract.
+-- Assumes nothing.
 use borrow.Author.Needs.{needs}
+use Rattle.turns.proofs.Handing.{deleted, kept}
 use Rattle.turns.proofs.writing.drop_packet.Statement.{statement}
 use Rattle.turns.proofs.writing.drop_packet.Tie as tie
-use Rattle.turns.proofs.writing.drop_packet.Reads as reads
-use Rattle.turns.proofs.writing.drop_packet.Lts as lts
-use Rattle.store.proofs.judged.delete.Reads as delete-reads
 
--- src/writing.rt:32:9
-delete-requires : tie.Need-delete-requires
-delete-requires c κs = search needs
-
--- src/writing.rt:25:1
-same-length : tie.Need-same-length
-same-length c = search needs
-
--- src/writing.rt:25:1
-same-length-2 : tie.Need-same-length-2
-same-length-2 c = search needs
-
--- src/writing.rt:25:1
 returns : tie.Need-returns
-returns c = search needs
+returns c = deleted _ _ _ _ _ _ _ _ (c .before .before .before .before .before .before .before .if1 .taken) (c .before .before .before .before .delete .ensures)
 
--- src/writing.rt:25:1
 returns-2 : tie.Need-returns-2
-returns-2 c = search needs
+returns-2 c = kept _ _ _ _ _ (c .if1 .left)
 
 pub drop-packet-spec : {M : Type 1} → statement M
-drop-packet-spec = tie.close (tie.spec delete-requires same-length same-length-2 returns returns-2)
+drop-packet-spec = tie.close (tie.spec (λ c κs. search needs) (λ c. search needs) (λ c. search needs) returns returns-2)

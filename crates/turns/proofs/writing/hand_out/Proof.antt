@@ -1,90 +1,96 @@
-use borrow.Author.Needs.{needs}
+-- `turns::writing::hand_out` meets its contract.
+-- Assumes nothing.
+use Prim.Native.Nat.{_-_}
+use mathlib.Core.Path.{_∙_}
 use native.Mathlib.Omega.{arith}
+use borrow.Author.Needs.{needs}
+use Rattle.turns.proofs.Turning.{Turning, turning-end, turning-first, turning-last, turning-next, turning-room, turning-start}
 use Rattle.turns.proofs.writing.hand_out.Statement.{statement}
 use Rattle.turns.proofs.writing.hand_out.Tie as tie
-use Rattle.turns.proofs.writing.hand_out.Reads as reads
-use Rattle.turns.proofs.writing.hand_out.Lts as lts
-use Rattle.log.proofs.put_number.Reads as put-number-reads
-use Rattle.table.proofs.row.tc_info.Reads as tc-info-reads
-use Rattle.turns.proofs.writing.hand_one.Reads as hand-one-reads
 
 abbrev Inv-loop : tie.InvT-loop
-Inv-loop setup store₀ lens₀ rows log₀ m on delete at₀ i₀ store lens log at i = ?
+Inv-loop setup store₀ lens₀ rows log₀ m on delete at₀ i₀ store lens log at i =
+    Turning setup store₀ lens₀ log₀ rows m delete on store lens log at i
 
 abbrev μ-loop : tie.MeasureT-loop
-μ-loop setup store₀ lens₀ rows log₀ m on delete at₀ i₀ store lens log at i = ?
+μ-loop setup store₀ lens₀ rows log₀ m on delete at₀ i₀ store lens log at i = m - i
 
--- src/writing.rt:87:22
 mul-at : tie.Need-mul-at Inv-loop μ-loop
-mul-at c = search needs
+mul-at c = omega (arith, turning-start _ _ _ _ _ _ _ _ (c .before .before .before .before .pre .1 .1))
 
--- src/writing.rt:87:18
 add-at : tie.Need-add-at Inv-loop μ-loop
-add-at c = search needs
+add-at c = omega (arith, turning-start _ _ _ _ _ _ _ _ (c .before .before .before .before .pre .1 .1))
 
--- src/writing.rt:89:5
 loop-holds : tie.Need-loop-holds Inv-loop μ-loop
-loop-holds c = search needs
+loop-holds c = turning-first _ _ _ _ _ _ _ _ (c .before .before .before .before .pre .0)
 
--- src/writing.rt:90:13
 tc-info-requires : tie.Need-tc-info-requires Inv-loop μ-loop
-tc-info-requires c κs = search needs
+tc-info-requires c κs = (c .before .before .before .before .before .before .pre .1 .0, c .loop-test .taken)
 
--- src/writing.rt:91:34
 mul-put-number : tie.Need-mul-put-number Inv-loop μ-loop
-mul-put-number c = search needs
+mul-put-number c =
+    let t = turning-start _ _ _ _ _ _ _ _ (c .before .before .before .before .before .before .before .before .pre .1 .1) in
+    omega (arith, t, c .before .before .loop-test .taken)
 
--- src/writing.rt:91:30
 add-put-number : tie.Need-add-put-number Inv-loop μ-loop
-add-put-number c = search needs
+add-put-number c =
+    let t = turning-start _ _ _ _ _ _ _ _ (c .before .before .before .before .before .before .before .before .pre .1 .1) in
+    omega (arith, t, c .before .before .loop-test .taken)
 
--- src/writing.rt:91:9
 put-number-requires : tie.Need-put-number-requires Inv-loop μ-loop
-put-number-requires c κs = search needs
+put-number-requires c κs =
+    let t = turning-end _ _ _ _ _ _ _ _ _ _ _ _ _ (c .before .before .before .loop .inv) (c .before .before .before .before .before .before .before .before .pre .1 .1) in
+    omega (arith, t .0, c .before .before .before .loop .inv .above, c .before .before .loop-test .taken)
 
--- src/writing.rt:92:13
 hand-one-requires : tie.Need-hand-one-requires Inv-loop μ-loop
-hand-one-requires c κs = search needs
+hand-one-requires c κs =
+    let k = c .before .before .before .before .before .before .before .before .before .loop .inv in
+    let t = turning-room _ _ _ _ _ _ _ _ _ _ _ _ _ k (c .before .before .before .before .before .before .before .before .loop-test .taken) _ (c .before .before .before .before .before .before .before .tc-info .ensures .1) (c .before .before .before .before .before .before .before .before .before .before .before .before .before .before .pre .1 .1) in
+    (k .sound, omega (arith, t .0, c .before .before .before .before .before .put-number .kept .0))
 
--- src/writing.rt:93:14
 add-at-2 : tie.Need-add-at-2 Inv-loop μ-loop
-add-at-2 c = search needs
+add-at-2 c =
+    let t = turning-room _ _ _ _ _ _ _ _ _ _ _ _ _ (c .before .before .before .before .before .before .before .before .before .before .before .before .before .before .before .before .loop .inv) (c .before .before .before .before .before .before .before .before .before .before .before .before .before .before .before .loop-test .taken) _ (c .before .before .before .before .before .before .before .before .before .before .before .before .before .before .tc-info .ensures .1) (c .before .before .before .before .before .before .before .before .before .before .before .before .before .before .before .before .before .before .before .before .before .pre .1 .1) in
+    omega (arith, t .1, c .before .before .before .before .before .before .hand-one .ensures .size)
 
--- src/writing.rt:94:9
 add-i : tie.Need-add-i Inv-loop μ-loop
-add-i c = search needs
+add-i c = omega arith
 
--- src/writing.rt:89:5
 loop-less : tie.Need-loop-less Inv-loop μ-loop
-loop-less c = search needs
+loop-less c = omega (arith, c .before .before .before .before .before .before .before .before .before .before .before .before .before .before .before .loop-test .taken)
 
--- src/writing.rt:89:5
 loop-again : tie.Need-loop-again Inv-loop μ-loop
-loop-again c = search needs
+loop-again c =
+    turning-next _ _ _ _ _ _ _ _ _ _ _ _ _ (c .before .before .before .before .before .before .before .before .before .before .before .before .before .before .before .before .loop .inv) (c .before .before .before .before .before .before .before .before .before .before .before .before .before .before .before .loop-test .taken) _ _ _ _ _ _ _
+    (c .before .before .before .before .before .before .before .before .before .before .before .before .before .before .tc-info .ensures .0)
+    (c .before .before .before .before .before .before .before .before .before .before .before .before .before .before .tc-info .ensures .1)
+    (c .before .before .before .before .before .before .before .before .before .before .before .before .put-number .ensures)
+    (c .before .before .before .before .before .before .hand-one .kept .1 .1 .1 .0 ∙ c .before .before .before .before .before .before .before .before .before .before .before .before .put-number .kept .0)
+    (c .before .before .before .before .before .before .hand-one .ensures)
 
--- src/writing.rt:96:5
 put-number-requires-2 : tie.Need-put-number-requires-2 Inv-loop μ-loop
-put-number-requires-2 c κs = search needs
+put-number-requires-2 c κs =
+    let t = turning-end _ _ _ _ _ _ _ _ _ _ _ _ _ (c .before .before .loop .inv) (c .before .before .before .before .before .before .before .pre .1 .1) in
+    omega (arith, t .0, c .before .before .loop .inv .above)
 
--- src/writing.rt:97:5
 put-number-requires-3 : tie.Need-put-number-requires-3 Inv-loop μ-loop
-put-number-requires-3 c κs = search needs
+put-number-requires-3 c κs =
+    let t = turning-end _ _ _ _ _ _ _ _ _ _ _ _ _ (c .before .before .before .before .before .before .loop .inv) (c .before .before .before .before .before .before .before .before .before .before .before .pre .1 .1) in
+    omega (arith, t .0, c .before .before .before .before .before .before .loop .inv .above, c .before .before .before .put-number2 .kept .0)
 
--- src/writing.rt:71:1
 same-length : tie.Need-same-length Inv-loop μ-loop
-same-length c = search needs
+same-length c = c .before .before .before .before .before .before .before .before .before .loop .inv .frame .same-length
 
--- src/writing.rt:71:1
 same-length-2 : tie.Need-same-length-2 Inv-loop μ-loop
-same-length-2 c = search needs
+same-length-2 c = c .before .before .before .before .before .before .before .before .before .loop .inv .frame .same-rows
 
--- src/writing.rt:71:1
 same-length-3 : tie.Need-same-length-3 Inv-loop μ-loop
-same-length-3 c = search needs
+same-length-3 c = c .before .before .put-number3 .kept .0 ∙ c .before .before .before .before .before .before .put-number2 .kept .0 ∙ c .before .before .before .before .before .before .before .before .before .loop .inv .long
 
--- src/writing.rt:71:1
 returns : tie.Need-returns Inv-loop μ-loop
-returns c = search needs
+returns c =
+    turning-last _ _ _ _ _ _ _ _ _ _ _ _ _ (c .before .before .before .before .before .before .before .before .before .loop .inv) _ _ (c .before .before .before .before .before .before .before .before .loop-test .left) (c .before .before .before .before .before .before .put-number2 .ensures)
+    (c .before .before .put-number3 .ensures)
 
 pub hand-out-spec : {M : Type 1} → statement M
 hand-out-spec =
