@@ -46,10 +46,11 @@ module _ (after : List Pool → ℕ → List Pool) (on : Entry → Bool) (cap : 
       _
       _
       _
-      (λ q. omega
-      (arith,
-      fitting-holds (used + need (find ps (e .addr))) es (after ps (e .addr)) (leb-true _ _ q),
-      length-more r (turns after on (take n es) (after ps (e .addr)))))
+      (λ q. omega (
+        arith,
+        fitting-holds (used + need (find ps (e .addr))) es (after ps (e .addr)) (leb-true _ _ q),
+        length-more r (turns after on (take n es) (after ps (e .addr))),
+      ))
       (λ q. omega arith)
 
 total-of : (rs : List LogRecord) (n t : ℕ) → length rs ≡ n → 8 + 4 * n + length (records rs) ≤ t → total rs ≤ t

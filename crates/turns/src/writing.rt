@@ -89,7 +89,17 @@ pub fn hand_out(
     while i < m {
         let info = table::row::tc_info(rows, m, i);
         log::put_number(log, 8 + 4 * i, at);
-        let n = hand_one(setup, store, lens, log, at, info.request_id, info.addr, on, delete);
+        let n = hand_one(
+            setup,
+            store,
+            lens,
+            log,
+            at,
+            info.request_id,
+            info.addr,
+            on,
+            delete,
+        );
         at = at + n;
         i += 1;
     }
