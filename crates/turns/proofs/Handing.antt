@@ -105,7 +105,8 @@ module _ (su : Setup) (st le : List ℕ) (a : ℕ) where
   unfolding leave
   kept del e = rw e (leaves-same su st le)
 
-  pub leave-sound : (del : Bool) (st′ le′ : List ℕ) → StoreSound su st le → Leaves su st le (leave del (view su st le) a) st′ le′ → StoreSound su st′ le′
+  pub leave-sound : (del : Bool) (st′ le′ : List ℕ) → StoreSound su st le → Leaves su st le (leave del (view su st le) a) st′ le′
+      → StoreSound su st′ le′
   unfolding leave
   leave-sound true st′ le′ s l =
       delete-stays su st le s a (says (deleteIn (view su st le) a)) st′ le′

@@ -26,7 +26,7 @@ unfolding unless
 either P true x y f g = f refl
 either P false x y f g = g refl
 
-module _ (after : List Pool → ℕ → List Pool) (on : Entry → Bool) (cap : ℕ) where
+module _ (after : List Pool → ℕ → List Pool) (cap : ℕ) where
   pub fitting-le : (used : ℕ) (es : List Entry) (ps : List Pool) → fitting after used cap es ps ≤ length es
   unfolding fitting
   fitting-le used [] ps = omega arith
@@ -34,11 +34,11 @@ module _ (after : List Pool → ℕ → List Pool) (on : Entry → Bool) (cap : 
       let h = fitting-le (used + need (find ps (e .addr))) es (after ps (e .addr)) in
       either (λ (n : ℕ). n ≤ suc (length es)) _ _ _ (λ q. omega arith) (λ q. omega arith)
 
-  pub fitting-holds : (used : ℕ) (es : List Entry) (ps : List Pool) → used ≤ cap
+  pub fitting-holds : (on : Entry → Bool) (used : ℕ) (es : List Entry) (ps : List Pool) → used ≤ cap
       → used + 4 * fitting after used cap es ps + length (records (turns after on (take (fitting after used cap es ps) es) ps)) ≤ cap
   unfolding fitting turns records
-  fitting-holds used [] ps h = omega arith
-  fitting-holds used (e ∷ es) ps h =
+  fitting-holds on used [] ps h = omega arith
+  fitting-holds on used (e ∷ es) ps h =
       let r : LogRecord = handed (on e) e (find ps (e .addr)) in
       let n : ℕ = fitting after (used + need (find ps (e .addr))) cap es (after ps (e .addr)) in
       either
@@ -48,7 +48,7 @@ module _ (after : List Pool → ℕ → List Pool) (on : Entry → Bool) (cap : 
       _
       (λ q. omega (
         arith,
-        fitting-holds (used + need (find ps (e .addr))) es (after ps (e .addr)) (leb-true _ _ q),
+        fitting-holds on (used + need (find ps (e .addr))) es (after ps (e .addr)) (leb-true _ _ q),
         length-more r (turns after on (take n es) (after ps (e .addr))),
       ))
       (λ q. omega arith)
@@ -57,21 +57,23 @@ total-of : (rs : List LogRecord) (n t : ℕ) → length rs ≡ n → 8 + 4 * n +
 unfolding total
 total-of rs n t e h = omega arith
 
-module _ (su : Setup) (st le w log : List ℕ) (del on : Bool) (n cap m : ℕ) (q : m ≡ fitting (leave del) 8 cap (unpack n w) (view su st le)) where
+-- m of the first n rows are released
+module _ (su : Setup) (st le w : List ℕ) (del : Bool) (n cap m : ℕ) (q : m ≡ fitting (leave del) 8 cap (unpack n w) (view su st le)) where
   pub few : m ≤ n
-  few = omega (arith, fitting-le (leave del) (always on) cap 8 (unpack n w) (view su st le), length-unpack n w)
+  few = omega (arith, fitting-le (leave del) cap 8 (unpack n w) (view su st le), length-unpack n w)
 
-  pub roomy : 8 ≤ cap → cap ≤ mostLogBytes → cap ≤ length log → Roomy del on (unpack m w) (view su st le) log
-  roomy h l g =
-      let t : take m (unpack n w) ≡ unpack m w = take-unpack n w m few in
-      let f = rw (← q, t) at (fitting-holds (leave del) (always on) cap 8 (unpack n w) (view su st le) h) in
-      let u = length-turns (leave del) (always on) (unpack m w) (view su st le) ∙ length-unpack m w in
-      let v = total-of (turns (leave del) (always on) (unpack m w) (view su st le)) m cap u f in
-      record { holds = omega arith; small = omega arith }
+  module _ (on : Bool) (log : List ℕ) where
+    pub roomy : 8 ≤ cap → cap ≤ mostLogBytes → cap ≤ length log → Roomy del on (unpack m w) (view su st le) log
+    roomy h l g =
+        let t : take m (unpack n w) ≡ unpack m w = take-unpack n w m few in
+        let f = rw (← q, t) at (fitting-holds (leave del) cap (always on) 8 (unpack n w) (view su st le) h) in
+        let u = length-turns (leave del) (always on) (unpack m w) (view su st le) ∙ length-unpack m w in
+        let v = total-of (turns (leave del) (always on) (unpack m w) (view su st le)) m cap u f in
+        record { holds = omega arith; small = omega arith }
 
-  pub released : (count : ℕ) (le₁ st′ le′ w′ log′ : List ℕ) → le₁ ≡ le → Turns su del on (unpack m w) st le₁ log st′ le′ log′
-      → w′ ≡ relaid w count (without 0 m (unpack count w)) → Released su del on n cap count st le w log m st′ le′ w′ log′
-  released count le₁ st′ le′ w′ log′ e t x = record { many = q; some = few; turned = rw e at t; moved = x }
+    pub released : (count : ℕ) (le₁ st′ le′ w′ log′ : List ℕ) → le₁ ≡ le → Turns su del on (unpack m w) st le₁ log st′ le′ log′
+        → w′ ≡ relaid w count (without 0 m (unpack count w)) → Released su del on n cap count st le w log m st′ le′ w′ log′
+    released count le₁ st′ le′ w′ log′ e t x = record { many = q; some = few; turned = rw e at t; moved = x }
 
 -- the first entry's record alone
 pub first-none : (count : ℕ) (w : List ℕ) (ps : List Pool) → count < 1 → 8 ≡ firstTotal (unpack count w) ps

@@ -13,26 +13,27 @@ measure-requires c κs =
 
 hand-out-requires : tie.Need-hand-out-requires
 hand-out-requires c κs =
-    let p = c .before .before .before .before .before .before .before .before .before .before .before .before .before .before .pre in
-    let a = c .before .before .before .before .before .before .before .before .before .before .before .before .before .before .args in
-    let r = c .before .before .before .before .before .before .measure in
-    let l = few (a .setup) (a .store .now) (a .lens .now) (a .rows .now) (a .log .now) (a .delete) (a .on) (a .n) (a .cap) (r .result) (r .ensures .0) in
-    let g = roomy (a .setup) (a .store .now) (a .lens .now) (a .rows .now) (a .log .now) (a .delete) (a .on) (a .n) (a .cap) (r .result) (r .ensures .0)
-    (p .1 .1 .1 .0) (p .1 .1 .1 .1) (p .1 .1 .1 .2) in
-    (rw (r .ensures .1) (p .0), (record { room = omega (arith, l, p .1 .0 .room, p .1 .1 .0) }, rw (r .ensures .1) g))
+    let r = c .before .before .before .before .before .before in
+    let s = r .before .before .before .before .before .before .before .before in
+    let p = s .pre in
+    let e = r .measure .ensures in
+    let l = few _ _ _ _ _ _ _ _ (e .0) in
+    let g = roomy _ _ _ _ _ _ _ _ (e .0) (s .args .on) (s .args .log .now) (p .1 .1 .1 .0) (p .1 .1 .1 .1) (p .1 .1 .1 .2) in
+    (rw (e .1) (p .0), (record { room = omega (arith, l, p .1 .0 .room, p .1 .1 .0) }, rw (e .1) g))
 
 remove-requires : tie.Need-remove-requires
 remove-requires c κs =
-    let p = c .before .before .before .before .before .before .before .before .before .before .before .before .before .before .before .before .before .before .before .before .before .before .pre in
-    let a = c .before .before .before .before .before .before .before .before .before .before .before .before .before .before .before .before .before .before .before .before .before .before .args in
-    let r = c .before .before .before .before .before .before .before .before .before .before .before .before .before .before .measure in
-    let l = few (a .setup) (a .store .now) (a .lens .now) (a .rows .now) (a .log .now) (a .delete) (a .on) (a .n) (a .cap) (r .result) (r .ensures .0) in
-    (p .1 .0, omega (arith, l, p .1 .1 .0))
+    let r = c .before .before .before .before .before .before .before .before .before .before .before .before .before .before in
+    let s = r .before .before .before .before .before .before .before .before in
+    let l = few _ _ _ _ _ _ _ _ (r .measure .ensures .0) in
+    (s .pre .1 .0, omega (arith, l, s .pre .1 .1 .0))
 
 returns : tie.Need-returns
 returns c =
-    let r = c .before .before .before .before .before .before .before .before .before .before .before .before .before .before .before .before .before .measure in
-    released _ _ _ _ _ _ _ _ _ _ (r .ensures .0) _ _ _ _ _ _ (r .ensures .1) (c .before .before .before .before .before .before .before .before .before .before .hand-out .ensures) (c .before .before .remove .ensures)
+    let x = c .before .before in
+    let o = x .before .before .before .before .before .before .before .before in
+    let r = o .before .before .before .before .before .before .before in
+    released _ _ _ _ _ _ _ _ (r .measure .ensures .0) _ _ _ _ _ _ _ _ (r .measure .ensures .1) (o .hand-out .ensures) (x .remove .ensures)
 
 pub release-spec : {M : Type 1} → statement M
 release-spec =

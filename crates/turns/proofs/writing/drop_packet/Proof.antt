@@ -6,7 +6,10 @@ use Rattle.turns.proofs.writing.drop_packet.Statement.{statement}
 use Rattle.turns.proofs.writing.drop_packet.Tie as tie
 
 returns : tie.Need-returns
-returns c = deleted _ _ _ _ _ _ _ _ (c .before .before .before .before .before .before .before .if1 .taken) (c .before .before .before .before .delete .ensures)
+returns c =
+    let d = c .before .before .before .before in
+    let t = d .before .before .before in
+    deleted _ _ _ _ _ _ _ _ (t .if1 .taken) (d .delete .ensures)
 
 returns-2 : tie.Need-returns-2
 returns-2 c = kept _ _ _ _ _ (c .if1 .left)
