@@ -21,9 +21,7 @@ sets-swap l i j a (x ∷ b) h =
 pub length-offsets : (at : ℕ) (rs : List LogRecord) → length (offsets at rs) ≡ 4 * length rs
 unfolding offsets
 length-offsets at [] = refl
-length-offsets at (r ∷ rs) =
-    let at′ : ℕ = at + 17 + length (r .packet) in
-    omega (arith, length-append (bytesOf 4 at) (offsets at′ rs), length-bytes 4 at, length-offsets at′ rs)
+length-offsets at (r ∷ rs) = simp (length-append, length-bytes, length-offsets (at + 17 + length (r .packet)) rs) (omega arith)
 
 pub length-more : (r : LogRecord) (rs : List LogRecord) → length (records (r ∷ rs)) ≡ 17 + length (r .packet) + length (records rs)
 unfolding records

@@ -2,3 +2,4 @@
 pub mod Turns
 pub mod Parts
 pub mod Marks
+pub mod Turned
