@@ -1,0 +1,2 @@
+-- The tick's laws.
+pub mod Split

@@ -1,0 +1,2 @@
+-- Split
+use Prim.Native.Nat.{ℕ}

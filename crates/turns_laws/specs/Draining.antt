@@ -1,0 +1,2 @@
+-- Repeated ticks.
+use Prim.Native.Nat.{ℕ}
