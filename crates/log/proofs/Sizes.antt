@@ -34,16 +34,7 @@ size-offsets at (r ∷ rs) = length-append (bytesOf 4 at) _ ∙ ap₂ _+_ (lengt
 -- the log has as many bytes as its total says
 pub size-log : (rs : List LogRecord) → length (logBytes rs) ≡ total rs
 unfolding logBytes total
-size-log rs =
-    omega (
-      arith,
-      length-append (bytesOf 4 (length rs) ++ bytesOf 4 (total rs)) (offsets (recordsAt rs) rs ++ records rs),
-      length-append (bytesOf 4 (length rs)) (bytesOf 4 (total rs)),
-      length-append (offsets (recordsAt rs) rs) (records rs),
-      length-bytes 4 (length rs),
-      length-bytes 4 (total rs),
-      size-offsets (recordsAt rs) rs,
-    )
+size-log rs = simp (length-append, length-bytes, size-offsets) (omega arith)
 
 -- 21 bytes and the packet's, for each record
 unfoldable pub taken : List LogRecord → ℕ
