@@ -1,2 +1,4 @@
--- The tick's laws.
+-- The tick's laws: Split, Largest, Drains, Follows. The other files help them.
+pub mod Cases
+pub mod Due
 pub mod Split
