@@ -2,3 +2,7 @@
 pub mod Cases
 pub mod Due
 pub mod Split
+pub mod Largest
+pub mod Follows
+pub mod Packets
+pub mod Drains

@@ -1,6 +1,7 @@
 -- How many entries are due, and repeated ticks with nothing between them.
 use Prim.Native.Nat.{_+_, _-_, _/_, _≤_, suc, zero, ℕ}
 use Rattle.rules.specs.Tests.{unless}
+use Rattle.store.specs.Layout.{sizeAt}
 use Rattle.store.specs.Pools.{Pool, findAt}
 use Rattle.table.specs.Entries.{Entry, time}
 use Rattle.table.specs.Order.{below}
@@ -9,6 +10,7 @@ use lib.Dec.{leb}
 use lib.ListN.{length}
 use mathlib.Core.Bool.{Bool}
 use mathlib.Core.List.{List, [], _++_, _∷_}
+use Rattle.store.specs.declared.Setup.{Setup}
 
 -- the due entries at the front
 abbrev pub due : ℕ → List Entry → ℕ
@@ -37,3 +39,7 @@ drained after on ck k cap (suc n) es ps =
 -- d / k, rounded up
 abbrev pub roundedUp : ℕ → ℕ → ℕ
 roundedUp d k = (d + (k - 1)) / k
+
+-- slot sizes rise: the last subpool's is the largest
+abbrev pub largestSlot : Setup → ℕ
+largestSlot su = sizeAt su (su .pools - 1)
