@@ -26,7 +26,8 @@ use Rattle.tick.specs.Tick.{Logged, due, handedOut, tickIn, usable}
 use Rattle.time.specs.Time.{instant}
 use Rattle.turns.specs.Parts.{Released, afterAll, turns}
 use Rattle.turns.specs.Turns.{Handout, always, handout, leave}
-use Rattle.turns.proofs.Split.{below-drop, many, split}
+use Rattle.turns_laws.proofs.Due.{below-drop}
+use Rattle.turns_laws.proofs.Split.{many, splits}
 
 module _ (su : Setup) (r : Record) (st le ro log : List ℕ) (limit : ℕ) (delete : Bool) where
   abbrev s : State
@@ -63,10 +64,13 @@ module _ (su : Setup) (r : Record) (st le ro log : List ℕ) (limit : ℕ) (dele
       nn : n ≡ min (due (r .clock) es) limit
       nn = en ∙ rw ed
 
+      nn′ : n ≡ min limit (due (r .clock) es)
+      nn′ = omega (arith, nn)
+
       count-is : length (h .records) ≡ m
       unfolding h
       count-is =
-          let tk : take (min (due (r .clock) es) limit) es ≡ unpack n ro = rw (← nn) (take-unpack (r .count) ro n (omega arith)) in
+          let tk : take (min limit (due (r .clock) es)) es ≡ unpack n ro = rw (← nn′) (take-unpack (r .count) ro n (omega arith)) in
           many (leave delete) (always (r .enabled)) (instant (r .clock)) limit 8 (usable log) es ps ∙ rw (tk, ← ec) (sym (w .many))
 
       first-m : take (length (h .records)) es ≡ unpack m ro
@@ -75,19 +79,19 @@ module _ (su : Setup) (r : Record) (st le ro log : List ℕ) (limit : ℕ) (dele
       records-are : h .records ≡ turns (leave delete) (always (r .enabled)) (unpack m ro) ps
       unfolding h
       records-are =
-          split (leave delete) (always (r .enabled)) (instant (r .clock)) limit 8 (usable log) es ps .records-are
+          splits (leave delete) (always (r .enabled)) (instant (r .clock)) limit 8 (usable log) es ps .records-are
           ∙ ap (λ (x : List Entry). turns (leave delete) (always (r .enabled)) x ps) first-m
 
       pools-are : h .pools ≡ afterAll (leave delete) (unpack m ro) ps
       unfolding h
       pools-are =
-          split (leave delete) (always (r .enabled)) (instant (r .clock)) limit 8 (usable log) es ps .pools-are
+          splits (leave delete) (always (r .enabled)) (instant (r .clock)) limit 8 (usable log) es ps .pools-are
           ∙ ap (λ (x : List Entry). afterAll (leave delete) x ps) first-m
 
       left-is : h .left ≡ drop m es
       unfolding h
       left-is =
-          split (leave delete) (always (r .enabled)) (instant (r .clock)) limit 8 (usable log) es ps .left-is
+          splits (leave delete) (always (r .enabled)) (instant (r .clock)) limit 8 (usable log) es ps .left-is
           ∙ ap (λ (x : ℕ). drop x es) count-is
 
       length-left : length (h .left) ≡ r .count - m
