@@ -1,12 +1,12 @@
 -- Laws of the writers: a turn of the loop that copies, and a record part by part.
 -- Assumes nothing.
-use Prim.Native.Nat.{_+_, _<_, _≤_, suc, ℕ}
+use Prim.Native.Nat.{_+_, _<_, ℕ}
 use Rattle.log.specs.Log.{LogRecord, recordBytes}
 use Rattle.words.proofs.Sets.{length-bytes, sets-then}
 use Rattle.words.specs.Words.{bytesOf}
 use lib.ListN.{drop, getD, length, length-append, set}
 use lib.Seq.{drop-cons, sets}
-use mathlib.Core.List.{List, [], _++_, _∷_}
+use mathlib.Core.List.{List, _++_}
 use mathlib.Core.Path.{_∙_, _≡_, ap}
 use native.Mathlib.Nat.{add-suc}
 use native.Mathlib.Numerals.{add-one}

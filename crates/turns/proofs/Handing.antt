@@ -2,7 +2,7 @@
 -- Assumes nothing.
 use Prim.Native.Nat.{_+_, _-_, _≤_, suc, zero, ℕ}
 use Rattle.log.specs.Log.{recordBytes}
-use Rattle.rules.specs.Papers.{Outcome, Paper, after, done, refused, says}
+use Rattle.rules.specs.Papers.{Paper, after, done, refused, says}
 use Rattle.store.proofs.Asks.{found-held-at}
 use Rattle.store.proofs.Laid.{leaves-as, leaves-same}
 use Rattle.store.proofs.Lists.{taken-out}

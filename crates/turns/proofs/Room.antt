@@ -14,7 +14,6 @@ use Rattle.turns.proofs.Turning.{length-turns}
 use Rattle.turns.specs.Parts.{Released, Roomy, Turns, firstTotal, fitting, turns}
 use Rattle.turns.specs.Turns.{always, handed, leave, need, packetOf}
 use borrow.Author.Tests.{leb-true}
-use lib.Dec.{leb}
 use lib.ListN.{length, take}
 use mathlib.Core.Bool.{Bool, false, true}
 use mathlib.Core.List.{List, [], _∷_}

@@ -3,7 +3,6 @@
 use Prim.Native.Nat.{_-_}
 use mathlib.Core.Path.{_∙_}
 use native.Mathlib.Omega.{arith}
-use borrow.Author.Needs.{needs}
 use Rattle.turns.proofs.Turning.{Turning, turning-end, turning-first, turning-last, turning-next, turning-room, turning-start}
 use Rattle.turns.proofs.writing.hand_out.Statement.{statement}
 use Rattle.turns.proofs.writing.hand_out.Tie as tie
