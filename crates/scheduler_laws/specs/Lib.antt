@@ -1,0 +1,2 @@
+-- The words of the scheduler's laws.
+pub mod Fits
