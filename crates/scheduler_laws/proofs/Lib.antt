@@ -2,3 +2,7 @@
 pub mod RefusalKeeps
 pub mod OneOutcome
 pub mod Subpools
+pub mod Laying
+pub mod Stamps
+pub mod Calls
+pub mod StaysSound
