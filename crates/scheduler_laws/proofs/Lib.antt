@@ -5,4 +5,5 @@ pub mod Subpools
 pub mod Laying
 pub mod Stamps
 pub mod Calls
+pub mod Standing
 pub mod StaysSound
