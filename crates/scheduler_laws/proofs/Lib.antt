@@ -1,5 +1,7 @@
--- The scheduler's laws: RefusalKeeps, OneOutcome. The other files help them.
+-- The scheduler's laws: RefusalKeeps, OneToOne, OneOutcome, StaysSound. The other files help them.
 pub mod RefusalKeeps
+pub mod Back
+pub mod OneToOne
 pub mod OneOutcome
 pub mod Subpools
 pub mod Laying

@@ -1,2 +1,3 @@
 -- The words of the scheduler's laws.
 pub mod Fits
+pub mod Words
