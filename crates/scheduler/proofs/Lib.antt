@@ -1,16 +1,11 @@
--- The facts by which the scheduler's functions are proved.
-pub mod Facts
-pub mod Gates
-pub mod Judging
-pub mod Promises
-pub mod Counting
-pub mod Openings
-pub mod Retrieving
-pub mod Entering
-pub mod Adding
-pub mod Activities
-pub mod Wrapping
-pub mod Sweeping
-pub mod Clearing
-pub mod Taking
-pub mod Starting
+-- The scheduler's laws: RefusalKeeps, OneToOne, OneOutcome, StaysSound. The other files help them.
+pub mod RefusalKeeps
+pub mod Back
+pub mod OneToOne
+pub mod OneOutcome
+pub mod Subpools
+pub mod Laying
+pub mod Stamps
+pub mod Calls
+pub mod Standing
+pub mod StaysSound

@@ -1,11 +1,4 @@
--- The scheduler's rules.
-pub mod State
-pub mod Judge
-pub mod Inserting
-pub mod Windowing
-pub mod Deleting
-pub mod Answers
-pub mod Starting
-pub mod Inside
-pub mod Promise
+-- The scheduler's requests and steps, and the words of its laws.
 pub mod Steps
+pub mod Fits
+pub mod Words

@@ -1,3 +1,0 @@
--- The words of the scheduler's laws.
-pub mod Fits
-pub mod Words

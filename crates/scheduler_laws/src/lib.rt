@@ -1,1 +1,0 @@
-// Laws of the scheduler: what follows from its promises. Definitions and laws; no code.
