@@ -73,7 +73,8 @@ refusalOf n vs =
     (cond (eqb n 8) BadTimestamp
     (cond (eqb n 9) TcUnreadable
     (cond (eqb n 10) NestedScheduledTc
-    (cond (eqb n 13) (ReleaseTimeInTimeMargin (timeOf (getD vs 0 0) (getD vs 1 0)) (marginOf (getD vs 2 0) (getD vs 3 0)) (timeOf (getD vs 4 0) (getD vs 5 0)))
+    (cond (eqb n 13)
+    (ReleaseTimeInTimeMargin (timeOf (getD vs 0 0) (getD vs 1 0)) (marginOf (getD vs 2 0) (getD vs 3 0)) (timeOf (getD vs 4 0) (getD vs 5 0)))
     (cond (eqb n 14) ScheduleFull
     (cond (eqb n 15) ReversedWindow
     (cond (eqb n 20) (LogTooSmall (getD vs 0 0)) (Store (storeBack (no n vs)))))))))))))
@@ -153,7 +154,8 @@ retrieved-back (R.Rows x) w = refl
 retrieved-back (R.Refused e) w = rw (no-answer e, there-and-back e (w e refl))
 
 pub insertedOf : Paper → InsertAnswer
-insertedOf p = cond (eqb (p .number) 0) (I.Inserted (record { addr = getD (p .values) 0 0; «request_id» = getD (p .values) 1 0 })) (I.Refused (back p))
+insertedOf p = cond (eqb (p .number) 0)
+    (I.Inserted (record { addr = getD (p .values) 0 0; «request_id» = getD (p .values) 1 0 })) (I.Refused (back p))
 
 pub inserted-back : (a : InsertAnswer) → Inside I.Refused a → insertedOf (insertedPaper a) ≡ a
 unfolding insertedOf insertedPaper

@@ -17,7 +17,7 @@ use Rattle.schedule.specs.State.{State, recordOf, withEntries, withPools}
 use Rattle.schedule.specs.declared.Setup.{Setup}
 use Rattle.scheduler.proofs.Stamps.{data-bytes, stamp-timely}
 use Rattle.scheduler.proofs.Subpools.{add-fits, delete-fits, fresh-fits, rewrite-fits}
-use Rattle.scheduler.specs.Fits.{Bytes, Fits, PoolsFit}
+use Rattle.scheduler.specs.Fits.{Bytes, Fits, Gives, PoolsFit}
 use Rattle.scheduler.specs.Steps.{ofPools, withRecord}
 use Rattle.stamp.specs.Stamp.{Timely, stampOf}
 use Rattle.stamp.specs.declared.Stamp.the-variants.{At, Refused}
@@ -42,10 +42,6 @@ use mathlib.Core.Bool.{Bool, cond, false, true}
 use mathlib.Core.List.{List, [], _∷_}
 use mathlib.Core.Path.{_≡_, refl}
 use native.Mathlib.Omega.{arith}
-
-abbrev pub Gives : Setup → Outcome State → Type 0
-Gives su (refused p) = Unit {0}
-Gives su (done vs s) = Fits su s
 
 pub gives-after : (su : Setup) (s : State) (o : Outcome State) → Fits su s → Gives su o → Fits su (after o s (λ t. t))
 unfolding after
@@ -214,7 +210,8 @@ module _ (su : Setup) (s : State) (f : Fits su s) where
   reset-gives =
       clear-gives su _ (record { pools = f .pools; kept = f .kept; few = f .few; clock = f .clock; margin = f .margin }) (s .entries) [] refl zero-le
 
-  take-gives : (id : ℕ) (found : ℕ → State → Outcome State) → ((a : ℕ) (t : State) → Fits su t → Gives su (found a t)) → Gives su (takeIn id found s)
+  take-gives : (id : ℕ) (found : ℕ → State → Outcome State) → ((a : ℕ) (t : State) → Fits su t → Gives su (found a t))
+      → Gives su (takeIn id found s)
   unfolding takeIn
   take-gives id found h =
       either su _ _ _ f
@@ -226,7 +223,8 @@ module _ (su : Setup) (s : State) (f : Fits su s) where
   unfolding deleteKeepingIn
   keeping-gives id = take-gives id _ (λ a t g. g)
 
-freed-gives : (su : Setup) (s : State) (o : Outcome (List Pool)) → Fits su s → PoolsFit (su .store) 0 (after o (s .pools) (λ ps. ps)) → Gives su (freed s o)
+freed-gives : (su : Setup) (s : State) (o : Outcome (List Pool)) → Fits su s → PoolsFit (su .store) 0 (after o (s .pools) (λ ps. ps))
+    → Gives su (freed s o)
 unfolding freed after
 freed-gives su s (refused p) f h = f
 freed-gives su s (done vs ps) f h = with-pools su s ps f h

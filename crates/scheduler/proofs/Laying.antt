@@ -136,7 +136,8 @@ module _ (su : Setup) where
         let f : rowsBefore su k + 0 ≡ rowsBefore su k = omega arith in
         pool≡ (sym (h .size))
         (ap (each (slotIn su st le k) 0) (sym (h .number))
-        ∙ slots-back su st le k (small-sizes ok k l) (p .slots) 0 rb rl (as-setup k p h) (ap (λ (m : ℕ). drop m st) e ∙ b) (ap (λ (m : ℕ). drop m le) f ∙ r))
+        ∙ slots-back su st le k (small-sizes ok k l) (p .slots) 0 rb rl (as-setup k p h) (ap (λ (m : ℕ). drop m st) e ∙ b)
+        (ap (λ (m : ℕ). drop m le) f ∙ r))
 
     pools-back : (ps : List Pool) (k n : ℕ) (rb rl : List ℕ) → k + n ≡ su .pools → PoolsFit su k ps
         → drop (bytesBefore su k) st ≡ bytesOf ps ++ rb → drop (rowsBefore su k) le ≡ lensOf ps ++ rl

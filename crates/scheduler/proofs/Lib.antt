@@ -1,4 +1,4 @@
--- The scheduler's laws: RefusalKeeps, OneToOne, OneOutcome, StaysSound. The other files help them.
+-- The scheduler's laws: RefusalKeeps, OneToOne, OneOutcome, StaysSound, Stepping. The other files help them.
 pub mod RefusalKeeps
 pub mod Back
 pub mod OneToOne
@@ -9,3 +9,4 @@ pub mod Stamps
 pub mod Calls
 pub mod Standing
 pub mod StaysSound
+pub mod Stepping

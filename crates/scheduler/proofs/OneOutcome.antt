@@ -12,13 +12,11 @@ use Rattle.deletions.specs.declared.TakeAnswer.{TakeAnswer}
 use Rattle.insertions.specs.Answers.{insertedPaper}
 use Rattle.insertions.specs.declared.InsertAnswer.the-variants as I
 use Rattle.insertions.specs.declared.InsertAnswer.{InsertAnswer}
-use Rattle.record.specs.Record.{Changes}
 use Rattle.record.specs.Refusals.{donePaper}
-use Rattle.record.specs.declared.Changed.{Changed}
 use Rattle.record.specs.declared.Done.the-variants as D
 use Rattle.record.specs.declared.Done.{Done}
 use Rattle.record.specs.declared.Record.{Record}
-use Rattle.rules.specs.Papers.{Outcome, Paper, says}
+use Rattle.rules.specs.Papers.{Outcome, Paper, after, says}
 use Rattle.schedule.proofs.Promises.{writes}
 use Rattle.schedule.specs.Answers.{countedPaper, verdictPaper}
 use Rattle.schedule.specs.Judge.{Sound, judging}
@@ -31,7 +29,7 @@ use Rattle.schedule.specs.declared.Setup.{Setup}
 use Rattle.schedule.specs.declared.Verdict.the-variants as Ve
 use Rattle.schedule.specs.declared.Verdict.{Verdict}
 use Rattle.scheduler.proofs.OneToOne.{one-cleared, one-counted, one-done, one-freed, one-inserted, one-retrieved, one-taken, one-verdict}
-use Rattle.scheduler.proofs.RefusalKeeps.{Same}
+use Rattle.scheduler.specs.Laws.{Same}
 use Rattle.scheduler.specs.Words.{Inside}
 use mathlib.Core.List.{List}
 use mathlib.Core.Path.{_∙_, _≡_, sym}
@@ -114,7 +112,7 @@ module _ {A : Type 0} (o : Outcome A) where
   pub one-judge : (a b : Verdict) → Inside Ve.Refused a → Inside Ve.Refused b → verdictPaper a ≡ says o → verdictPaper b ≡ says o → a ≡ b
   one-judge a b i j w v = one-verdict a b i j (w ∙ sym v)
 
--- setting the clock, enable, disable
-pub one-change : (o : Outcome Record) (r : Record) (c d : Changed) → Inside D.Refused (c .answer) → Inside D.Refused (d .answer)
-    → Changes o r c → Changes o r d → (c .answer ≡ d .answer) × (c .next ≡ d .next)
-one-change o r c d i j w v = (one-done (c .answer) (d .answer) i j (w .answer ∙ sym (v .answer)), w .next ∙ sym (v .next))
+-- setting the clock, enable, disable, in place or by value
+pub one-change : (o : Outcome Record) (r r₁ r₂ : Record) (a b : Done) → Inside D.Refused a → Inside D.Refused b
+    → donePaper a ≡ says o → r₁ ≡ after o r (λ x. x) → donePaper b ≡ says o → r₂ ≡ after o r (λ x. x) → (a ≡ b) × (r₁ ≡ r₂)
+one-change o r r₁ r₂ a b i j w m v n = (one-done a b i j (w ∙ sym v), m ∙ sym n)

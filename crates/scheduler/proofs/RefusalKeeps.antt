@@ -1,29 +1,22 @@
 -- A refusal, an answer whose number is above 0, changes no lent byte and no record.
 use Prim.Native.Nat.{ℕ}
-use Rattle.record.specs.Record.{Changes}
 use Rattle.record.specs.Refusals.{donePaper}
-use Rattle.record.specs.declared.Changed.{Changed}
+use Rattle.record.specs.declared.Done.{Done}
 use Rattle.record.specs.declared.Record.{Record}
 use Rattle.rules.proofs.Order.{refusal-keeps}
-use Rattle.rules.specs.Papers.{Outcome, Paper, says}
+use Rattle.rules.specs.Papers.{Outcome, Paper, after, says}
 use Rattle.schedule.proofs.Promises.{writes}
 use Rattle.schedule.specs.Judge.{Sound, judging}
 use Rattle.schedule.specs.Promise.{Does, Writes}
 use Rattle.schedule.specs.Starting.{Starts}
 use Rattle.schedule.specs.State.{State, recordOf}
 use Rattle.schedule.specs.declared.Setup.{Setup}
+use Rattle.scheduler.specs.Laws.{Same}
 use Rattle.scheduler.specs.Steps.{Request, add, carried, count, delete, deleteById, deleteKeeping, deleteWindow, disable, enable, hasElementAt, insertStored, insertUnwrapped, insertWrapped, lenOfData, looked, modify, read, reset, retrieve, setClock, step}
 use Rattle.store.specs.View.{lensWith, storeWith}
 use Rattle.table.specs.Entries.{relaid}
 use mathlib.Core.List.{List}
 use mathlib.Core.Path.{_∙_, _≡_, ap, refl}
-
--- record, store, length table and rows are what they were
-pub record Same (r r′ : Record) (st st′ le le′ ro ro′ : List ℕ) : Type 0 where
-  pub record-is : r′ ≡ r
-  pub store-is : st′ ≡ st
-  pub lens-is : le′ ≡ le
-  pub rows-is : ro′ ≡ ro
 
 module _ (su : Setup) (r : Record) (st le ro : List ℕ) (p : Paper) (r′ : Record) (st′ le′ ro′ : List ℕ) (above : p .number ≡ 0 → ⊥) where
   -- every public call that writes, whatever its outcome is
@@ -52,9 +45,10 @@ module _ (su : Setup) (r : Record) (st le ro : List ℕ) (p : Paper) (r′ : Rec
   pub judged-keeps : (call : State → Outcome State) → Sound su r st le ro → Does su r st le ro call p r′ st′ le′ ro′ → Same r r′ st st′ le le′ ro ro′
   judged-keeps call s d = call-keeps (judging su r st le ro call) (writes su r st le ro call p r′ st′ le′ ro′ s d)
 
--- setting the clock, enable, disable: `o` is `clockIn t r` or `markIn on r`
-pub change-keeps : (o : Outcome Record) (r : Record) (c : Changed) → Changes o r c → (donePaper (c .answer) .number ≡ 0 → ⊥) → c .next ≡ r
-change-keeps o r c w above = w .next ∙ refusal-keeps o r (λ x. x) (λ e. above (ap (λ (x : Paper). x .number) (w .answer) ∙ e))
+-- setting the clock, enable, disable, in place or by value: `o` is `clockIn t r` or `markIn on r`
+pub change-keeps : (o : Outcome Record) (r r′ : Record) (a : Done) → donePaper a ≡ says o → r′ ≡ after o r (λ x. x)
+    → (donePaper a .number ≡ 0 → ⊥) → r′ ≡ r
+change-keeps o r r′ a e n above = n ∙ refusal-keeps o r (λ x. x) (λ z. above (ap (λ (x : Paper). x .number) e ∙ z))
 
 -- every request, over the model's states; and a buffer that was lent to `read`
 pub step-keeps : (su : Setup) (q : Request) (s : State) → (step su q s .answer .paper .number ≡ 0 → ⊥) → step su q s .state ≡ s

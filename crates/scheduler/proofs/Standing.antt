@@ -9,9 +9,8 @@ use Rattle.schedule.specs.Judge.{Sound, buffersOk, setupOk, stateOk}
 use Rattle.schedule.specs.Promise.{Writes}
 use Rattle.schedule.specs.State.{State, recordOf, stateOf}
 use Rattle.schedule.specs.declared.Setup.{Setup}
-use Rattle.scheduler.proofs.Calls.{Gives}
 use Rattle.scheduler.proofs.Laying.{fitting, leaves-laid, view-fits}
-use Rattle.scheduler.specs.Fits.{Fits}
+use Rattle.scheduler.specs.Fits.{Fits, Gives}
 use Rattle.store.specs.Judge.{Sized}
 use Rattle.store.specs.View.{lensWith, storeWith}
 use Rattle.store_laws.proofs.Fitting.{sound-of}

@@ -1,11 +1,7 @@
 -- A sound scheduler stays sound: every request keeps a fitting state so, and every public call keeps record and lent lists sound, from
--- a fresh start on; and what they stand for afterwards is what the model's step says.
+-- a fresh start on. Call by call it is the field `sound` of the laws in Stepping.
 use Prim.Native.Nat.{ℕ}
-use Rattle.deletions.specs.Deleting.{deleteByIdIn, deleteKeepingIn, deleteWindowIn, resetIn}
-use Rattle.deletions.specs.declared.Window.{Window}
-use Rattle.insertions.specs.Inserting.{insertStoredIn, insertUnwrappedIn, insertWrappedIn}
-use Rattle.record.specs.Record.{Changes, clockIn, markIn, timesInRange, withClock, withMark}
-use Rattle.record.specs.declared.Changed.{Changed}
+use Rattle.record.specs.Record.{clockIn, markIn, timesInRange, withClock, withMark}
 use Rattle.record.specs.declared.Record.{Record}
 use Rattle.rules.proofs.All.{all-each, and-right, each-all}
 use Rattle.rules.specs.Papers.{Outcome, Paper, after, done, no, refused, says}
@@ -16,9 +12,9 @@ use Rattle.schedule.specs.Promise.{Writes}
 use Rattle.schedule.specs.Starting.{Starts, freshState, startIn}
 use Rattle.schedule.specs.State.{State, stateOf}
 use Rattle.schedule.specs.declared.Setup.{Setup}
-use Rattle.scheduler.proofs.Calls.{Gives, add-gives, by-id-gives, clock-gives, delete-gives, gives-after, keeping-gives, mark-gives, modify-gives, reset-gives, start-gives, stored-gives, unwrapped-gives, window-gives, wrapped-gives}
-use Rattle.scheduler.proofs.Standing.{laid-sound, laid-state, outcome-sound, outcome-state, sound-fits}
-use Rattle.scheduler.specs.Fits.{AllOfBytes, Bytes, Fits, OfBytes}
+use Rattle.scheduler.proofs.Calls.{add-gives, by-id-gives, clock-gives, delete-gives, gives-after, keeping-gives, mark-gives, modify-gives, reset-gives, start-gives, stored-gives, unwrapped-gives, window-gives, wrapped-gives}
+use Rattle.scheduler.proofs.Standing.{laid-sound, laid-state, outcome-sound, sound-fits}
+use Rattle.scheduler.specs.Fits.{AllOfBytes, Fits, Gives, OfBytes}
 use Rattle.scheduler.specs.Steps.{Request, add, carried, count, delete, deleteById, deleteKeeping, deleteWindow, disable, enable, hasElementAt, insertStored, insertUnwrapped, insertWrapped, lenOfData, looked, modify, read, reset, retrieve, run, setClock, step}
 use Rattle.store.specs.Judge.{Sound as StoreSound}
 use Rattle.time.specs.Time.{inRange, marginInRange}
@@ -66,12 +62,6 @@ fresh-fits su room lens rows clock margin vs s q = rw q at (start-gives su room 
 
 -- ---- record and lent lists
 
--- what a public call did is what the step of its request says, and the scheduler is sound again
-pub record Steps (su : Setup) (r : Record) (st le ro : List ℕ) (q : Request) (p : Paper) (r′ : Record) (st′ le′ ro′ : List ℕ) : Type 0 where
-  pub sound : Sound su r′ st′ le′ ro′
-  pub answer : p ≡ step su q (stateOf su r st le ro) .answer .paper
-  pub state : stateOf su r′ st′ le′ ro′ ≡ step su q (stateOf su r st le ro) .state
-
 module _ (su : Setup) (r : Record) (st le ro : List ℕ) (s : Sound su r st le ro) (p : Paper) (r′ : Record) (st′ le′ ro′ : List ℕ) where
   -- any call that keeps fitting states so
   pub call-stays : (call : State → Outcome State) → ((x : State) → Fits su x → Gives su (call x))
@@ -80,54 +70,7 @@ module _ (su : Setup) (r : Record) (st le ro : List ℕ) (s : Sound su r st le r
       outcome-sound su r st le ro s p r′ st′ le′ ro′ (call (stateOf su r st le ro)) (k _ (sound-fits su r st le ro s))
       (rw (judging-fine su r st le ro call s) at w)
 
-  does-step : (q : Request) (call : State → Outcome State) → ((x : State) → Fits su x → Gives su (call x))
-      → ((x : State) → step su q x ≡ carried x (call x)) → Writes su r st le ro (judging su r st le ro call) p r′ st′ le′ ro′
-      → Steps su r st le ro q p r′ st′ le′ ro′
-  unfolding carried
-  does-step q call k e w =
-      let v = rw (judging-fine su r st le ro call s) at w in
-      let g = k _ (sound-fits su r st le ro s) in
-      record {
-        sound = call-stays call k w;
-        answer = rw e (v .answer);
-        state = rw e (outcome-state su r st le ro s p r′ st′ le′ ro′ (call (stateOf su r st le ro)) g v);
-      }
-
-  pub stored-steps : (t : UnixTime) (id a : ℕ) → Writes su r st le ro (judging su r st le ro (insertStoredIn su t id a)) p r′ st′ le′ ro′
-      → Steps su r st le ro (insertStored t id a) p r′ st′ le′ ro′
-  unfolding step
-  stored-steps t id a w = does-step (insertStored t id a) (insertStoredIn su t id a) (λ x f. stored-gives su x f t id a) (λ x. refl) w
-
-  pub unwrapped-steps : (t : UnixTime) (tc : List ℕ) → Writes su r st le ro (judging su r st le ro (insertUnwrappedIn su t tc)) p r′ st′ le′ ro′
-      → Steps su r st le ro (insertUnwrapped t tc) p r′ st′ le′ ro′
-  unfolding step
-  unwrapped-steps t tc w = does-step (insertUnwrapped t tc) (insertUnwrappedIn su t tc) (λ x f. unwrapped-gives su x f t tc) (λ x. refl) w
-
-  pub wrapped-steps : (tc : List ℕ) → Bytes tc → Writes su r st le ro (judging su r st le ro (insertWrappedIn su tc)) p r′ st′ le′ ro′
-      → Steps su r st le ro (insertWrapped tc) p r′ st′ le′ ro′
-  unfolding step
-  wrapped-steps tc b w = does-step (insertWrapped tc) (insertWrappedIn su tc) (λ x f. wrapped-gives su x f tc b) (λ x. refl) w
-
-  pub window-steps : (v : Window) → Writes su r st le ro (judging su r st le ro (deleteWindowIn v)) p r′ st′ le′ ro′
-      → Steps su r st le ro (deleteWindow v) p r′ st′ le′ ro′
-  unfolding step
-  window-steps v w = does-step (deleteWindow v) (deleteWindowIn v) (λ x f. window-gives su x f v) (λ x. refl) w
-
-  pub reset-steps : Writes su r st le ro (judging su r st le ro resetIn) p r′ st′ le′ ro′ → Steps su r st le ro reset p r′ st′ le′ ro′
-  unfolding step
-  reset-steps w = does-step reset resetIn (λ x f. reset-gives su x f) (λ x. refl) w
-
-  pub keeping-steps : (id : ℕ) → Writes su r st le ro (judging su r st le ro (deleteKeepingIn id)) p r′ st′ le′ ro′
-      → Steps su r st le ro (deleteKeeping id) p r′ st′ le′ ro′
-  unfolding step
-  keeping-steps id w = does-step (deleteKeeping id) (deleteKeepingIn id) (λ x f. keeping-gives su x f id) (λ x. refl) w
-
-  pub by-id-steps : (id : ℕ) → Writes su r st le ro (judging su r st le ro (deleteByIdIn id)) p r′ st′ le′ ro′
-      → Steps su r st le ro (deleteById id) p r′ st′ le′ ro′
-  unfolding step
-  by-id-steps id w = does-step (deleteById id) (deleteByIdIn id) (λ x f. by-id-gives su x f id) (λ x. refl) w
-
--- the record's own calls
+-- the record's own calls: setting the clock, enable, disable
 with-record : (su : Setup) (r r′ : Record) (st le ro : List ℕ) → Sound su r st le ro → r′ .count ≡ r .count → timesInRange r′ ≡ true
     → Sound su r′ st le ro
 unfolding stateOk
@@ -135,14 +78,14 @@ with-record su r r′ st le ro s e t =
     let d = all-each _ (s .state) in
     record { setup = s .setup; buffers = s .buffers; state = each-all _ (rw e (d .0), (t, (rw e (d .1 .1 .0), (d .1 .1 .1 .0, tt)))) }
 
-module _ (su : Setup) (r : Record) (st le ro : List ℕ) (s : Sound su r st le ro) (c : Changed) where
+module _ (su : Setup) (r : Record) (st le ro : List ℕ) (s : Sound su r st le ro) where
   times : timesInRange r ≡ true
   unfolding stateOk
   times = all-each _ (s .state) .1 .0
 
-  pub clock-stays : (t : UnixTime) → Changes (clockIn t r) r c → Sound su (c .next) st le ro
+  pub clock-stays : (t : UnixTime) → Sound su (after (clockIn t r) r (λ x. x)) st le ro
   unfolding clockIn unless after
-  clock-stays t w = rw (w .next) (go (timesInRange r) (inRange t) refl)
+  clock-stays t = go (timesInRange r) (inRange t) refl
     where
       go : (a b : Bool) → inRange t ≡ b
           → Sound su (after (unless a (refused (no 3 [])) (unless b (refused (no 4 [])) (done [] (withClock t r)))) r (λ x. x)) st le ro
@@ -150,9 +93,9 @@ module _ (su : Setup) (r : Record) (st le ro : List ℕ) (s : Sound su r st le r
       go true false e = s
       go true true e = with-record su r (withClock t r) st le ro s refl (rw e (and-right (inRange (r .clock)) (marginInRange (r .margin)) times))
 
-  pub mark-stays : (on : Bool) → Changes (markIn on r) r c → Sound su (c .next) st le ro
+  pub mark-stays : (on : Bool) → Sound su (after (markIn on r) r (λ x. x)) st le ro
   unfolding markIn unless after
-  mark-stays on w = rw (w .next) (go (timesInRange r))
+  mark-stays on = go (timesInRange r)
     where
       go : (a : Bool) → Sound su (after (unless a (refused (no 3 [])) (done [] (withMark on r))) r (λ x. x)) st le ro
       go false = s
@@ -205,3 +148,10 @@ module _ (su : Setup) (r : Record) (st le ro : List ℕ) (c : UnixTime) (m : Mar
       let b = begun in
       let v = rw (b .2) at w in
       rw (v .next, v .store, v .lens, v .rows) (laid-state su st le ro (su .entries) (freshState su c m) (b .0) (b .1) (omega arith) fits)
+
+-- and from it on every list of requests leaves a fitting state
+pub from-start : (su : Setup) (room lens rows : ℕ) (c : UnixTime) (m : Margin) → says (startIn su room lens rows c m) .number ≡ 0
+    → (qs : List Request) → AllOfBytes qs → Fits su (run su qs (freshState su c m) .state)
+unfolding startIn
+from-start su room lens rows c m fine qs o =
+    run-stays su qs (freshState su c m) o (fresh-fits su room lens rows c m [] (freshState su c m) (started _ _ _ (freshState su c m) _ refl fine .2))

@@ -83,7 +83,8 @@ module _ (su : Setup) (ps : List Pool) (h : PoolsFit su 0 ps) where
   rewrite-fits a d = edit-fits su (rewrite d) ps 0 (poolOf a) (slotOf a) (rewrite-slot-fits _ d) h
 
 -- subpools that are made one by one
-pub each-fits : (su : Setup) (f : ℕ → Pool) (n k : ℕ) → k + n ≡ su .pools → ((t : ℕ) → t < su .pools → PoolFits su t (f t)) → PoolsFit su k (each f k n)
+pub each-fits : (su : Setup) (f : ℕ → Pool) (n k : ℕ) → k + n ≡ su .pools → ((t : ℕ) → t < su .pools → PoolFits su t (f t))
+    → PoolsFit su k (each f k n)
 unfolding each
 each-fits su f zero k e h = omega arith
 each-fits su f (suc n) k e h = (h k (omega arith), each-fits su f n (suc k) (omega arith) h)

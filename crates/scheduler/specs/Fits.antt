@@ -1,5 +1,6 @@
 -- States that a sound scheduler can be in: what refusals 1 to 3 ask of setup, record and tables, said of a state.
 use Prim.Native.Nat.{_<_, _≤_, suc, ℕ}
+use Rattle.rules.specs.Papers.{Outcome, done, refused}
 use Rattle.schedule.specs.State.{State}
 use Rattle.schedule.specs.declared.Setup.{Setup}
 use Rattle.scheduler.specs.Steps.{Request, insertWrapped}
@@ -40,6 +41,11 @@ pub record Fits (su : Setup) (s : State) : Type 0 where
   pub few : length (s .entries) ≤ su .entries
   pub clock : inRange (s .clock) ≡ true
   pub margin : marginInRange (s .margin) ≡ true
+
+-- a refusal, or a state that fits
+abbrev pub Gives : Setup → Outcome State → Type 0
+Gives su (refused p) = Unit {0}
+Gives su (done vs s) = Fits su s
 
 -- Bytes, as every lent slice of bytes has by its type. The stamp of a wrapped insertion is in range because its day is one of bytes.
 abbrev pub Bytes : List ℕ → Type 0
