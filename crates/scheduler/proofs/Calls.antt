@@ -216,7 +216,8 @@ module _ (su : Setup) (s : State) (f : Fits su s) where
   take-gives id found h =
       either su _ _ _ f
       (λ l. let v : victim id (s .entries) < length (s .entries) = ltb-true _ _ l in
-      h _ _ (with-entries su s (without (victim id (s .entries)) 1 (s .entries)) f (without-ordered 0 (victim id (s .entries)) 1 (s .entries) (f .kept))
+      h _ _
+      (with-entries su s (without (victim id (s .entries)) 1 (s .entries)) f (without-ordered 0 (victim id (s .entries)) 1 (s .entries) (f .kept))
       (omega (arith, length-without (victim id (s .entries)) 1 (s .entries) (omega arith), f .few))))
 
   pub keeping-gives : (id : ℕ) → Gives su (deleteKeepingIn id s)
