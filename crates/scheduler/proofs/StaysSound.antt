@@ -6,9 +6,9 @@ use Rattle.record.specs.declared.Record.{Record}
 use Rattle.rules.proofs.All.{all-each, and-right, each-all}
 use Rattle.rules.specs.Papers.{Outcome, Paper, after, done, no, refused, says}
 use Rattle.rules.specs.Tests.{unless}
-use Rattle.schedule.proofs.Promises.{judging-fine}
+use Rattle.schedule.proofs.Promises.{judging-fine, writes}
 use Rattle.schedule.specs.Judge.{Sound, buffersOk, judging, setupOk, stateOk}
-use Rattle.schedule.specs.Promise.{Writes}
+use Rattle.schedule.specs.Promise.{Does, Writes}
 use Rattle.schedule.specs.Starting.{Starts, freshState, startIn}
 use Rattle.schedule.specs.State.{State, stateOf}
 use Rattle.schedule.specs.declared.Setup.{Setup}
@@ -69,6 +69,11 @@ module _ (su : Setup) (r : Record) (st le ro : List ℕ) (s : Sound su r st le r
   call-stays call k w =
       outcome-sound su r st le ro s p r′ st′ le′ ro′ (call (stateOf su r st le ro)) (k _ (sound-fits su r st le ro s))
       (rw (judging-fine su r st le ro call s) at w)
+
+  -- and its judged form, to a caller who has judged
+  pub judged-stays : (call : State → Outcome State) → ((x : State) → Fits su x → Gives su (call x)) → Does su r st le ro call p r′ st′ le′ ro′
+      → Sound su r′ st′ le′ ro′
+  judged-stays call k d = call-stays call k (writes su r st le ro call p r′ st′ le′ ro′ s d)
 
 -- the record's own calls: setting the clock, enable, disable
 with-record : (su : Setup) (r r′ : Record) (st le ro : List ℕ) → Sound su r st le ro → r′ .count ≡ r .count → timesInRange r′ ≡ true
