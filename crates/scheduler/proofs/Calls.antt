@@ -55,10 +55,10 @@ either su true x y g h = h refl
 either su false x y g h = g
 
 -- the same but for the subpools, or the entries
-with-pools : (su : Setup) (s : State) (ps : List Pool) → Fits su s → PoolsFit (su .store) 0 ps → Fits su (withPools ps s)
+pub with-pools : (su : Setup) (s : State) (ps : List Pool) → Fits su s → PoolsFit (su .store) 0 ps → Fits su (withPools ps s)
 with-pools su s ps f h = record { pools = h; kept = f .kept; few = f .few; clock = f .clock; margin = f .margin }
 
-with-entries : (su : Setup) (s : State) (es : List Entry) → Fits su s → ordered es ≡ true → length es ≤ su .entries → Fits su (withEntries es s)
+pub with-entries : (su : Setup) (s : State) (es : List Entry) → Fits su s → ordered es ≡ true → length es ≤ su .entries → Fits su (withEntries es s)
 with-entries su s es f k n = record { pools = f .pools; kept = k; few = n; clock = f .clock; margin = f .margin }
 
 -- ---- the store's calls

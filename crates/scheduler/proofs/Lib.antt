@@ -1,4 +1,4 @@
--- The scheduler's laws: RefusalKeeps, OneToOne, OneOutcome, StaysSound, Stepping. The other files help them.
+-- The scheduler's laws: RefusalKeeps, OneToOne, OneOutcome, StaysSound, Stepping, and Releasing for the tick. The other files help them.
 pub mod RefusalKeeps
 pub mod Back
 pub mod OneToOne
@@ -8,5 +8,6 @@ pub mod Laying
 pub mod Stamps
 pub mod Calls
 pub mod Standing
+pub mod Releasing
 pub mod StaysSound
 pub mod Stepping

@@ -12,9 +12,10 @@ use Rattle.schedule.specs.Starting.{Starts}
 use Rattle.schedule.specs.State.{State, recordOf}
 use Rattle.schedule.specs.declared.Setup.{Setup}
 use Rattle.scheduler.specs.Laws.{Same}
-use Rattle.scheduler.specs.Steps.{Request, add, carried, count, delete, deleteById, deleteKeeping, deleteWindow, disable, enable, hasElementAt, insertStored, insertUnwrapped, insertWrapped, lenOfData, looked, modify, read, reset, retrieve, setClock, step}
+use Rattle.scheduler.specs.Steps.{Request, add, carried, count, delete, deleteById, deleteKeeping, deleteWindow, disable, enable, hasElementAt, insertStored, insertUnwrapped, insertWrapped, lenOfData, looked, modify, read, reset, retrieve, setClock, step, tick, ticked}
 use Rattle.store.specs.View.{lensWith, storeWith}
 use Rattle.table.specs.Entries.{relaid}
+use mathlib.Core.Bool.{Bool}
 use mathlib.Core.List.{List}
 use mathlib.Core.Path.{_∙_, _≡_, ap, refl}
 
@@ -50,9 +51,9 @@ pub change-keeps : (o : Outcome Record) (r r′ : Record) (a : Done) → donePap
     → (donePaper a .number ≡ 0 → ⊥) → r′ ≡ r
 change-keeps o r r′ a e n above = n ∙ refusal-keeps o r (λ x. x) (λ z. above (ap (λ (x : Paper). x .number) e ∙ z))
 
--- every request, over the model's states; and a buffer that was lent to `read`
+-- every request, over the model's states; and a buffer that was lent, to `read` or as a log to the tick
 pub step-keeps : (su : Setup) (q : Request) (s : State) → (step su q s .answer .paper .number ≡ 0 → ⊥) → step su q s .state ≡ s
-unfolding step carried looked
+unfolding step carried looked ticked
 step-keeps su (add d) s above = refusal-keeps _ s (λ t. t) above
 step-keeps su (read a buf) s above = refl
 step-keeps su (modify a d) s above = refusal-keeps _ s (λ t. t) above
@@ -71,8 +72,14 @@ step-keeps su (deleteWindow w) s above = refusal-keeps _ s (λ t. t) above
 step-keeps su reset s above = refusal-keeps _ s (λ t. t) above
 step-keeps su (deleteKeeping id) s above = refusal-keeps _ s (λ t. t) above
 step-keeps su (deleteById id) s above = refusal-keeps _ s (λ t. t) above
+step-keeps su (tick limit del log) s above = refusal-keeps _ s (λ x. x .state) above
 
 pub read-keeps : (su : Setup) (a : ℕ) (buf : List ℕ) (s : State) → (step su (read a buf) s .answer .paper .number ≡ 0 → ⊥)
     → step su (read a buf) s .answer .buffer ≡ buf
 unfolding step looked
 read-keeps su a buf s above = refusal-keeps _ buf (λ b. b) above
+
+pub log-keeps : (su : Setup) (limit : ℕ) (del : Bool) (log : List ℕ) (s : State) → (step su (tick limit del log) s .answer .paper .number ≡ 0 → ⊥)
+    → step su (tick limit del log) s .answer .buffer ≡ log
+unfolding step ticked
+log-keeps su limit del log s above = refusal-keeps _ log (λ x. x .log) above

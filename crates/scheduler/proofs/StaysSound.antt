@@ -13,10 +13,12 @@ use Rattle.schedule.specs.Starting.{Starts, freshState, startIn}
 use Rattle.schedule.specs.State.{State, stateOf}
 use Rattle.schedule.specs.declared.Setup.{Setup}
 use Rattle.scheduler.proofs.Calls.{add-gives, by-id-gives, clock-gives, delete-gives, gives-after, keeping-gives, mark-gives, modify-gives, reset-gives, start-gives, stored-gives, unwrapped-gives, window-gives, wrapped-gives}
+use Rattle.scheduler.proofs.Releasing.{into-after, tick-gives}
 use Rattle.scheduler.proofs.Standing.{laid-sound, laid-state, outcome-sound, sound-fits}
 use Rattle.scheduler.specs.Fits.{AllOfBytes, Fits, Gives, OfBytes}
-use Rattle.scheduler.specs.Steps.{Request, add, carried, count, delete, deleteById, deleteKeeping, deleteWindow, disable, enable, hasElementAt, insertStored, insertUnwrapped, insertWrapped, lenOfData, looked, modify, read, reset, retrieve, run, setClock, step}
+use Rattle.scheduler.specs.Steps.{Request, add, carried, count, delete, deleteById, deleteKeeping, deleteWindow, disable, enable, hasElementAt, insertStored, insertUnwrapped, insertWrapped, lenOfData, looked, modify, read, reset, retrieve, run, setClock, step, tick, ticked}
 use Rattle.store.specs.Judge.{Sound as StoreSound}
+use Rattle.tick.specs.Tick.{Logged, tickIn}
 use Rattle.time.specs.Time.{inRange, marginInRange}
 use Rattle.time.specs.declared.Margin.{Margin}
 use Rattle.time.specs.declared.UnixTime.{UnixTime}
@@ -30,7 +32,7 @@ use native.Mathlib.Omega.{arith}
 
 -- every request keeps a fitting state so. A wrapped packet is one of bytes, as every lent slice is
 pub step-stays : (su : Setup) (q : Request) (s : State) → OfBytes q → Fits su s → Fits su (step su q s .state)
-unfolding step carried looked
+unfolding step carried looked ticked
 step-stays su (add d) s o f = gives-after su s _ f (add-gives su s f d)
 step-stays su (read a buf) s o f = f
 step-stays su (modify a d) s o f = gives-after su s _ f (modify-gives su s f a d _)
@@ -49,6 +51,8 @@ step-stays su (deleteWindow w) s o f = gives-after su s _ f (window-gives su s f
 step-stays su reset s o f = gives-after su s _ f (reset-gives su s f)
 step-stays su (deleteKeeping id) s o f = gives-after su s _ f (keeping-gives su s f id)
 step-stays su (deleteById id) s o f = gives-after su s _ f (by-id-gives su s f id)
+step-stays su (tick limit del log) s o f =
+    rw (into-after (λ (x : Logged). x .state) (tickIn limit del log s) s) at (gives-after su s _ f (tick-gives su s f limit del log))
 
 pub run-stays : (su : Setup) (qs : List Request) (s : State) → AllOfBytes qs → Fits su s → Fits su (run su qs s .state)
 unfolding run
