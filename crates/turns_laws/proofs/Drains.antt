@@ -1,16 +1,15 @@
 -- Repeated ticks with limit k at least 1, nothing between them and room for k records of the largest packet hand out d due entries
 -- within d / k ticks, rounded up.
-use Prim.Native.Nat.{_*_, _+_, _-_, _<_, _≤_, min, suc, zero, ℕ}
-use Rattle.log.specs.Log.{LogRecord}
+use Prim.Native.Nat.{_*_, _+_, _-_, _≤_, min, suc, zero, ℕ}
 use Rattle.rules.specs.Tests.{unless}
 use Rattle.store.specs.Judge.{Sound}
 use Rattle.store.specs.Pools.{Pool, find}
 use Rattle.store.specs.View.{view}
 use Rattle.table.proofs.Order.{below-le, drop-ordered}
 use Rattle.table.specs.Entries.{Entry}
-use Rattle.table.specs.Order.{below, ordered, orderedFrom}
+use Rattle.table.specs.Order.{ordered}
 use Rattle.turns.specs.Parts.{afterAll, fitting, turns}
-use Rattle.turns.specs.Turns.{Handout, handed, handout, leave, need, stop}
+use Rattle.turns.specs.Turns.{Handout, handed, handout, leave, need}
 use Rattle.turns_laws.proofs.Cases.{unless-cases}
 use Rattle.turns_laws.proofs.Due.{below-drop, due-is}
 use Rattle.turns_laws.proofs.Packets.{short-leave, short-need, sound-short}
@@ -45,9 +44,14 @@ then-more : (after : List Pool → ℕ → List Pool) (on : Entry → Bool) (es 
     → Splits after on es ps g m → Splits after on (g .left) (g .pools) h n → Splits after on es ps (next g h) (m + n)
 then-more after on es ps g h m n a b =
     record {
-      records-are = ap₂ _++_ (a .records-are) (b .records-are ∙ rw (a .left-is, a .pools-are)) ∙ sym (turns-append after on (take m es) (take n (drop m es)) ps) ∙ ap (λ (xs : List Entry). turns after on xs ps) (sym (take-add m n es));
+      records-are =
+          ap₂ _++_ (a .records-are) (b .records-are ∙ rw (a .left-is, a .pools-are))
+          ∙ sym (turns-append after on (take m es) (take n (drop m es)) ps)
+          ∙ ap (λ (xs : List Entry). turns after on xs ps) (sym (take-add m n es));
       left-is = b .left-is ∙ ap (drop n) (a .left-is) ∙ drop-drop n m es;
-      pools-are = b .pools-are ∙ rw (a .left-is, a .pools-are) (sym (after-append after (take m es) (take n (drop m es)) ps)) ∙ ap (λ (xs : List Entry). afterAll after xs ps) (sym (take-add m n es));
+      pools-are =
+          b .pools-are ∙ rw (a .left-is, a .pools-are) (sym (after-append after (take m es) (take n (drop m es)) ps))
+          ∙ ap (λ (xs : List Entry). afterAll after xs ps) (sym (take-add m n es));
     }
 
 -- ---- one tick
@@ -60,7 +64,8 @@ fitting-ample big del used cap [] ps s h = refl
 fitting-ample big del used cap (e ∷ es) ps s h =
     let n = short-need big ps (e .addr) s in
     rw (le-leb (used + need (find ps (e .addr))) cap (omega arith))
-    (ap suc (fitting-ample big del (used + need (find ps (e .addr))) cap es (leave del ps (e .addr)) (short-leave big del ps (e .addr) s) (omega arith)))
+    (ap suc
+    (fitting-ample big del (used + need (find ps (e .addr))) cap es (leave del ps (e .addr)) (short-leave big del ps (e .addr) s) (omega arith)))
 
 short-handout : (big : ℕ) (del : Bool) (on : Entry → Bool) (ck k used cap : ℕ) (es : List Entry) (ps : List Pool) → Short big ps
     → Short big (handout (leave del) on ck k used cap es ps .pools)
@@ -135,7 +140,15 @@ module _ (big : ℕ) (del : Bool) (on : Entry → Bool) (ck k cap : ℕ) (room :
         sym (due-is ck 0 (after-n .left) q) ∙ drain-due ∙ omega (arith, up (dueCount ck es) k n h l)
 
 -- the same of a judged store, with room for k records of its largest slot size
-module _ (su : Setup) (st le : List ℕ) (ok : Sound su st le) (del : Bool) (on : Entry → Bool) (ck k cap : ℕ) (some : 1 ≤ k) (room : 8 + k * (21 + largestSlot su) ≤ cap) where
+module _
+    (su : Setup)
+    (st le : List ℕ)
+    (ok : Sound su st le)
+    (del : Bool)
+    (on : Entry → Bool)
+    (ck k cap : ℕ)
+    (some : 1 ≤ k)
+    (room : 8 + k * (21 + largestSlot su) ≤ cap) where
   pub ticks-drain : (n : ℕ) (es : List Entry) → roundedUp (due ck es) k ≤ n
       → Splits (leave del) on es (view su st le) (drained (leave del) on ck k cap n es (view su st le)) (due ck es)
   ticks-drain n es l = all-drain (largestSlot su) del on ck k cap room n es (view su st le) (sound-short su st le ok) some l

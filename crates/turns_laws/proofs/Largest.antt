@@ -17,12 +17,13 @@ use lib.ListN.{length, length-take, take}
 use lib.Seq.{take-take}
 use mathlib.Core.Bool.{Bool}
 use mathlib.Core.List.{List, [], _∷_}
-use mathlib.Core.Path.{_∙_, _≡_, ap}
+use mathlib.Core.Path.{_∙_, _≡_}
 use native.Mathlib.Nat.{le-of-suc-le-suc, not-suc-le-zero}
 use native.Mathlib.Omega.{arith}
 
 -- the first m are due and allowed, and a log of their records fits; of no larger number is all of that so
-pub record Largest (after : List Pool → ℕ → List Pool) (on : Entry → Bool) (ck limit cap : ℕ) (es : List Entry) (ps : List Pool) (m : ℕ) : Type 0 where
+pub record Largest (after : List Pool → ℕ → List Pool) (on : Entry → Bool) (ck limit cap : ℕ) (es : List Entry) (ps : List Pool) (m : ℕ)
+    : Type 0 where
   pub allowed : m ≤ limit
   pub are-due : m ≤ due ck es
   pub fits : total (turns after on (take m es) ps) ≤ cap
@@ -56,7 +57,7 @@ largest after on ck limit cap es ps h =
     record {
       allowed = a .0;
       are-due = a .1;
-      fits = rw m (fits-all (fitting after 8 cap (take n es) ps) (omega (arith, fitting-le after 8 cap (take n es) ps)) (fitting-fits after on 8 cap (take n es) ps h));
+      fits = rw m (fits-all (fitting after 8 cap (take n es) ps) (fitting-le after 8 cap (take n es) ps) (fitting-fits after on 8 cap (take n es) ps h));
       most = λ k p q l. rw m (fitting-most after on 8 cap (take n es) ps k (rw long (omega arith)) (fit-some k (omega arith) l));
     }
   where
@@ -69,7 +70,8 @@ largest after on ck limit cap es ps h =
     long : length (take n es) ≡ n
     long = length-take n es ∙ omega (arith, below-le (ck + 1) es)
 
-    fits-all : (k : ℕ) → k ≤ length (take n es) → 8 + taken (turns after on (take k (take n es)) ps) ≤ cap → total (turns after on (take k es) ps) ≤ cap
+    fits-all : (k : ℕ) → k ≤ length (take n es) → 8 + taken (turns after on (take k (take n es)) ps) ≤ cap
+        → total (turns after on (take k es) ps) ≤ cap
     fits-all k l t = omega (arith, total-parts (turns after on (take k es) ps), rw (take-take k n es (omega (arith, long))) at t)
 
     fit-some : (k : ℕ) → k ≤ n → total (turns after on (take k es) ps) ≤ cap → 8 + taken (turns after on (take k (take n es)) ps) ≤ cap

@@ -1,14 +1,12 @@
 -- The schedule splits by position: its first m entries are handed out, in order, and leave; the others stay.
 -- Assumes nothing.
-use Prim.Native.Nat.{_+_, _-_, _≤_, min, suc, zero, ℕ}
-use Rattle.log.specs.Log.{LogRecord}
+use Prim.Native.Nat.{_+_, _-_, _≤_, min, suc, ℕ}
 use Rattle.rules.specs.Tests.{allOf, unless}
 use Rattle.store.specs.Pools.{Pool, find}
-use Rattle.table.proofs.Order.{below-head, below-le, below-not}
+use Rattle.table.proofs.Order.{below-head, below-not}
 use Rattle.table.specs.Entries.{Entry, time}
-use Rattle.table.specs.Order.{below}
 use Rattle.turns.specs.Parts.{afterAll, fitting, turns}
-use Rattle.turns.specs.Turns.{Handout, goesOut, handed, handout, need, put, stop}
+use Rattle.turns.specs.Turns.{Handout, handed, handout, need, put, stop}
 use Rattle.turns_laws.proofs.Cases.{unless-cases}
 use Rattle.turns_laws.specs.Draining.{due}
 use borrow.Author.Tests.{leb-false, leb-true, ltb-false, ltb-true}
