@@ -2,18 +2,20 @@
 use Prim.Native.Nat.{ℕ}
 use mathlib.Core.Bool.{Bool, false, true}
 use mathlib.Core.List.{List, [], _∷_}
+use Rattle.deletions.specs.Deleting.{deleteByIdIn, deleteKeepingIn, deleteWindowIn, resetIn}
+use Rattle.deletions.specs.Windowing.{retrieveIn}
+use Rattle.deletions.specs.declared.Window.{Window}
+use Rattle.insertions.specs.Inserting.{insertStoredIn, insertUnwrappedIn, insertWrappedIn}
 use Rattle.record.specs.Record.{clockIn, markIn}
 use Rattle.record.specs.declared.Record.{Record}
-use Rattle.rules.specs.Papers.{Outcome, Paper, after, done, refused, says}
+use Rattle.rules.specs.Papers.{Outcome, Paper, after, into, says}
+use Rattle.schedule.specs.Counting.{countIn}
+use Rattle.schedule.specs.State.{State, recordOf, withPools}
+use Rattle.schedule.specs.declared.Setup.{Setup}
 use Rattle.store.specs.Calls.{addIn, deleteIn, hasIn, lenIn, packetIn, readIn}
 use Rattle.store.specs.Pools.{Pool, edit, rewrite}
+use Rattle.tick.specs.Tick.{Logged, tickIn}
 use Rattle.time.specs.declared.UnixTime.{UnixTime}
-use Rattle.scheduler.specs.Deleting.{deleteByIdIn, deleteKeepingIn, deleteWindowIn, resetIn}
-use Rattle.scheduler.specs.Inserting.{insertStoredIn, insertUnwrappedIn, insertWrappedIn}
-use Rattle.scheduler.specs.State.{State, recordOf, withPools}
-use Rattle.scheduler.specs.Windowing.{countIn, retrieveIn}
-use Rattle.scheduler.specs.declared.Setup.{Setup}
-use Rattle.scheduler.specs.declared.Window.{Window}
 
 pub data Request : Type 0 where
   -- the store's own calls; `modify` with what is written through it, and `read` with the buffer that is lent
@@ -32,6 +34,8 @@ pub data Request : Type 0 where
   retrieve deleteWindow : Window → Request
   reset : Request
   deleteKeeping deleteById : ℕ → Request
+  -- the tick: the limit on records, whether packets are deleted, and the log that is lent
+  tick : ℕ → Bool → List ℕ → Request
 
 -- what a request is answered, with the lent buffer as it is afterwards
 pub record Answer : Type 0 where
@@ -46,14 +50,13 @@ pub record Stepped : Type 0 where
 unfoldable pub carried : State → Outcome State → Stepped
 carried s o = record { answer = record { paper = says o; buffer = [] }; state = after o s (λ t. t) }
 
+-- the tick's, with the log that it leaves
+unfoldable pub ticked : State → List ℕ → Outcome Logged → Stepped
+ticked s log o = record { answer = record { paper = says o; buffer = after o log (λ x. x .log) }; state = after o s (λ x. x .state) }
+
 -- one that changes nothing, with the buffer that it leaves
 unfoldable pub looked : {A : Type 0} → State → Outcome A → List ℕ → Stepped
 looked s o buf = record { answer = record { paper = says o; buffer = buf }; state = s }
-
--- what is left, put into the state
-unfoldable pub into : {A : Type 0} → (A → State) → Outcome A → Outcome State
-into f (refused p) = refused p
-into f (done vs x) = done vs (f x)
 
 abbrev pub withRecord : State → Record → State
 withRecord s r = record { pools = s .pools; entries = s .entries; clock = r .clock; margin = r .margin; enabled = r .enabled }
@@ -83,6 +86,7 @@ step su (deleteWindow w) s = carried s (deleteWindowIn w s)
 step su reset s = carried s (resetIn s)
 step su (deleteKeeping id) s = carried s (deleteKeepingIn id s)
 step su (deleteById id) s = carried s (deleteByIdIn id s)
+step su (tick limit del log) s = ticked s log (tickIn limit del log s)
 
 -- one after another
 pub record Ran : Type 0 where

@@ -1,17 +1,17 @@
 -- The parts of a tick that the code takes one after the other: how many fit, their records, the store after them.
 use Prim.Native.Nat.{_+_, _≤_, suc, ℕ}
 use Rattle.log.specs.Log.{LogRecord, logBytes, mostLogBytes, total}
-use Rattle.rules.specs.Tests.{allOf, unless}
+use Rattle.rules.specs.Tests.{unless}
 use Rattle.store.specs.Pools.{Pool, find}
 use Rattle.store.specs.View.{Leaves, view}
 use Rattle.table.specs.Edits.{without}
 use Rattle.table.specs.Entries.{Entry, relaid, unpack}
 use Rattle.turns.specs.Turns.{always, handed, leave, need}
 use Rattle.store.specs.declared.Setup.{Setup}
-use lib.Dec.{leb, ltb}
+use lib.Dec.{leb}
 use lib.ListN.{length}
 use lib.Seq.{sets}
-use mathlib.Core.Bool.{Bool, not}
+use mathlib.Core.Bool.{Bool}
 use mathlib.Core.List.{List, [], _∷_}
 use mathlib.Core.Path.{_≡_}
 

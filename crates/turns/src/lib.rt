@@ -12,13 +12,29 @@ ghost use Rattle.turns.specs.Parts.{Released, firstTotal};
 mod measure;
 mod writing;
 
+use store::Whereabouts;
+
 // The log that the first entry's record needs alone.
-pub fn first_total(setup: store::Setup, store: &[u8], lens: &[u16], rows: &[u64], count: usize) -> usize
+pub fn first_total(
+    setup: store::Setup,
+    store: &[u8],
+    lens: &[u16],
+    rows: &[u64],
+    count: usize,
+) -> usize
     requires { ⌜ StoreSound setup (now store) (now lens) ⌝ }
     requires { ⌜ Held (now rows) count ⌝ }
     ensures { λ r. ⌜ r ≡ firstTotal (unpack count (now (rows .entry))) (view setup (now (store .entry)) (now (lens .entry))) ⌝ }
 {
-    8
+    if count < 1 {
+        return 8;
+    }
+    let info = table::row::tc_info(rows, count, 0);
+    let w = store::judged::find(setup, store, lens, info.addr);
+    match w {
+        Whereabouts::Refused(_) => 29,
+        Whereabouts::At(s) => 29 + s.len,
+    }
 }
 
 // Hands out as many of the first n of count rows as fit into cap bytes of the log, and takes their rows out. It answers how many.
