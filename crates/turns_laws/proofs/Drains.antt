@@ -8,9 +8,9 @@ use Rattle.store.specs.View.{view}
 use Rattle.table.proofs.Order.{below-le, drop-ordered}
 use Rattle.table.specs.Entries.{Entry}
 use Rattle.table.specs.Order.{ordered}
+use Rattle.turns.proofs.Room.{either}
 use Rattle.turns.specs.Parts.{afterAll, fitting, turns}
 use Rattle.turns.specs.Turns.{Handout, handed, handout, leave, need}
-use Rattle.turns_laws.proofs.Cases.{unless-cases}
 use Rattle.turns_laws.proofs.Due.{below-drop, due-is}
 use Rattle.turns_laws.proofs.Packets.{short-leave, short-need, sound-short}
 use Rattle.turns_laws.proofs.Split.{Splits, many, splits}
@@ -72,7 +72,7 @@ short-handout : (big : ℕ) (del : Bool) (on : Entry → Bool) (ck k used cap : 
 unfolding handout
 short-handout big del on ck k used cap [] ps s = s
 short-handout big del on ck k used cap (e ∷ es) ps s =
-    unless-cases (λ (w : Handout). Short big (w .pools)) _ _ _
+    either (λ (w : Handout). Short big (w .pools)) _ _ _
     (λ q. short-handout big del on ck (k - 1) (used + need (find ps (e .addr))) cap es (leave del ps (e .addr)) (short-leave big del ps (e .addr) s))
     (λ q. s)
 
