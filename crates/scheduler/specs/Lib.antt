@@ -1,2 +1,5 @@
--- The scheduler's requests and steps.
+-- The scheduler's requests and steps, and the words of its laws.
 pub mod Steps
+pub mod Fits
+pub mod Words
+pub mod Laws

@@ -106,7 +106,8 @@ module _ (su : Setup) (st le : List ℕ) (ok : Sound su st le) (a : ℕ) where
       go false t =
           let c = within su (length st) le (bounds ok) (poolOf a) (slotOf a) (n .pool) (n .slot) in
           let z : length (bytesAt su st (poolOf a) (slotOf a)) ≡ sizeAt su (poolOf a) = bytes-long c in
-          let m : getD le (rowsBefore su (poolOf a) + slotOf a) 0 ≤ sizeAt su (poolOf a) = ⊎-elim (λ e. absurd (eqb-false _ _ t e)) (λ l. l) (c .len-ok) in
+          let m : getD le (rowsBefore su (poolOf a) + slotOf a) 0 ≤ sizeAt su (poolOf a)
+          = ⊎-elim (λ e. absurd (eqb-false _ _ t e)) (λ l. l) (c .len-ok) in
           let y = c .small in
           rw (find-held su st le (poolOf a) (slotOf a) (n .pool) (n .slot) (eqb-false _ _ t))
           (row-below su a n, rw (row-named su a n), omega arith, omega arith)
@@ -144,7 +145,8 @@ owner su (suc n) r h = go (ltb r (rowsBefore su n)) refl (owner su n r)
         let l : rowsBefore su n ≤ r = ltb-false _ _ t in
         record { pool = n; slot = r - rowsBefore su n; before = omega arith; inside = omega arith; at = omega arith }
 
-pub row-plain : (su : Setup) (st le : List ℕ) → Sound su st le → (r : ℕ) → r < allRows su → (getD le r 0 ≡ storeFree) ⊎ (getD le r 0 ≤ maxSlotSize)
+pub row-plain : (su : Setup) (st le : List ℕ) → Sound su st le → (r : ℕ) → r < allRows su
+    → (getD le r 0 ≡ storeFree) ⊎ (getD le r 0 ≤ maxSlotSize)
 row-plain su st le ok r h =
     let o = owner su (su .pools) r h in
     let b = bounds ok in

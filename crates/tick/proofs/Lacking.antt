@@ -64,14 +64,14 @@ module _ (limit : ℕ) (delete : Bool) (log : List ℕ) (s : State) where
     where
       go : (b : Bool) → t ≡ unless (not b) (firstTotal (s .entries) (s .pools)) 0
           → unless (not b) (refused (no 20 (firstTotal (s .entries) (s .pools) ∷ [])))
-            (handedOut log s (handout (leave delete) (always (s .enabled)) (instant (s .clock)) limit 8 (usable log) (s .entries) (s .pools)))
-            ≡ refused (no 20 (t ∷ []))
+          (handedOut log s (handout (leave delete) (always (s .enabled)) (instant (s .clock)) limit 8 (usable log) (s .entries) (s .pools)))
+          ≡ refused (no 20 (t ∷ []))
       go true q = rw q
       go false q = absurd (omega arith)
 
   pub hands-out : (t : ℕ) → 8 ≤ length log → t ≡ lack allowed (usable log) (s .entries) (s .pools) → t ≤ 0
       → tickIn limit delete log s
-        ≡ handedOut log s (handout (leave delete) (always (s .enabled)) (instant (s .clock)) limit 8 (usable log) (s .entries) (s .pools))
+      ≡ handedOut log s (handout (leave delete) (always (s .enabled)) (instant (s .clock)) limit 8 (usable log) (s .entries) (s .pools))
   unfolding tickIn firstLacks lack unless
   hands-out t h e l =
       rw (le-leb 8 (length log) h, both (due (s .clock) (s .entries)) limit (ltb (usable log) (firstTotal (s .entries) (s .pools))))
@@ -79,7 +79,7 @@ module _ (limit : ℕ) (delete : Bool) (log : List ℕ) (s : State) where
     where
       go : (b : Bool) → t ≡ unless (not b) (firstTotal (s .entries) (s .pools)) 0
           → unless (not b) (refused (no 20 (firstTotal (s .entries) (s .pools) ∷ [])))
-            (handedOut log s (handout (leave delete) (always (s .enabled)) (instant (s .clock)) limit 8 (usable log) (s .entries) (s .pools)))
-            ≡ handedOut log s (handout (leave delete) (always (s .enabled)) (instant (s .clock)) limit 8 (usable log) (s .entries) (s .pools))
+          (handedOut log s (handout (leave delete) (always (s .enabled)) (instant (s .clock)) limit 8 (usable log) (s .entries) (s .pools)))
+          ≡ handedOut log s (handout (leave delete) (always (s .enabled)) (instant (s .clock)) limit 8 (usable log) (s .entries) (s .pools))
       go true q = absurd (omega (arith, first-pos (s .entries) (s .pools)))
       go false q = refl

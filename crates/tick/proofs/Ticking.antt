@@ -7,23 +7,32 @@ use mathlib.Core.Bool.{Bool}
 use mathlib.Core.List.{List, [], _∷_}
 use mathlib.Core.Path.{_≡_, _∙_, ap, refl, sym}
 use native.Mathlib.Omega.{arith}
+use Rattle.record.specs.Refusals.{paper}
 use Rattle.record.specs.declared.Record.{Record}
+use Rattle.record.specs.declared.ScheduleRefusal.the-variants.{LogTooSmall}
 use Rattle.log.specs.Log.{LogRecord, logBytes}
 use Rattle.rules.specs.Papers.{Outcome, Paper, after, done, into, no, refused}
+use Rattle.schedule.proofs.Facts.{facts, table-sound}
 use Rattle.schedule.proofs.Promises.{does-done, does-refused}
+use Rattle.schedule.specs.Judge.{Sound}
 use Rattle.schedule.specs.State.{State, recordOf, stateOf, withCount, withEntries, withPools}
 use Rattle.schedule.specs.declared.Setup.{Setup}
+use Rattle.store.specs.Judge.{Sound as StoreSound}
 use Rattle.store.specs.Pools.{Pool}
 use Rattle.store.specs.View.{view}
 use Rattle.table.proofs.Rows.{length-unpack, take-unpack}
 use Rattle.table.proofs.Stays.{without-first}
 use Rattle.table.specs.Entries.{Entry, relaid, unpack}
-use Rattle.table.specs.Order.{below}
+use Rattle.table.specs.Order.{Held, below, Sound as TableSound}
 use Rattle.tick.proofs.Lacking.{hands-out, lacks-first, short-log}
 use Rattle.tick.specs.Inside.{lack}
-use Rattle.tick.specs.Promise.{TickDoes, left}
+use Rattle.tick.specs.Promise.{TickDoes, left, tickPaper}
 use Rattle.tick.specs.Tick.{Logged, due, handedOut, tickIn, usable}
-use Rattle.time.specs.Time.{instant}
+use Rattle.tick.specs.declared.TickAnswer.the-variants.{HandedOut, Refused}
+use Rattle.tick.specs.declared.Ticked.{Ticked}
+use Rattle.time.specs.Time.{InRange, MomentInRange, instant, instantOf, momentOf}
+use Rattle.time.specs.declared.Moment.{Moment}
+use Rattle.time.specs.declared.UnixTime.{UnixTime}
 use Rattle.turns.specs.Parts.{Released, afterAll, turns}
 use Rattle.turns.specs.Turns.{Handout, always, handout, leave}
 use Rattle.turns_laws.proofs.Due.{below-drop}
@@ -44,17 +53,25 @@ module _ (su : Setup) (r : Record) (st le ro log : List ℕ) (limit : ℕ) (dele
   unfolding after into
   refused-by p q = record { tables = does-refused su r st le ro (λ x. left (tickIn limit delete log x)) p (rw q); log = rw q }
 
-  pub tick-short : length log < 8 → TickDoes su r st le ro log (tickIn limit delete log) (no 20 (8 ∷ [])) r st le ro log
-  tick-short h = refused-by (no 20 (8 ∷ [])) (short-log limit delete log s h)
+  -- what the code answers, as what the tick comes to
+  answered : (x : Ticked) (t : ℕ) → (x .next ≡ r) × (x .answer ≡ Refused (LogTooSmall t)) → tickIn limit delete log s ≡ refused (no 20 (t ∷ []))
+      → TickDoes su r st le ro log (tickIn limit delete log) (tickPaper (x .answer)) (x .next) st le ro log
+  unfolding tickPaper paper
+  answered x t e q = rw (e .0, e .1) (refused-by (no 20 (t ∷ [])) q)
+
+  pub tick-short : (x : Ticked) → (x .next ≡ r) × (x .answer ≡ Refused (LogTooSmall 8)) → length log < 8
+      → TickDoes su r st le ro log (tickIn limit delete log) (tickPaper (x .answer)) (x .next) st le ro log
+  tick-short x e h = answered x 8 e (short-log limit delete log s h)
 
   module _ (cap d n t : ℕ) (long : 8 ≤ length log) (ec : cap ≡ usable log) (ed : d ≡ due (r .clock) es) (en : n ≡ min d limit)
       (et : t ≡ lack n cap es ps) where
     lack-is : t ≡ lack (min (due (r .clock) es) limit) (usable log) es ps
     lack-is = et ∙ rw (en, ec, ed)
 
-    pub tick-lacks : 0 < t → TickDoes su r st le ro log (tickIn limit delete log) (no 20 (t ∷ [])) r st le ro log
+    pub tick-lacks : (x : Ticked) → (x .next ≡ r) × (x .answer ≡ Refused (LogTooSmall t)) → 0 < t
+        → TickDoes su r st le ro log (tickIn limit delete log) (tickPaper (x .answer)) (x .next) st le ro log
     unfolding stateOf
-    tick-lacks h = refused-by (no 20 (t ∷ [])) (lacks-first limit delete log s t long lack-is h)
+    tick-lacks x e h = answered x t e (lacks-first limit delete log s t long lack-is h)
 
     module _ (m : ℕ) (st′ le′ ro′ log′ : List ℕ) (none : t ≤ 0) (some : d ≤ r .count)
         (w : Released (su .store) delete (r .enabled) n cap (r .count) st le ro log m st′ le′ ro′ log′) where
@@ -118,9 +135,9 @@ module _ (su : Setup) (r : Record) (st le ro log : List ℕ) (limit : ℕ) (dele
       unfolding next stateOf
       record-is = rw length-left
 
-      pub tick-hands : TickDoes su r st le ro log (tickIn limit delete log) (no 0 (m ∷ (d - m) ∷ [])) (withCount (r .count - m) r) st′ le′ ro′ log′
+      handed : TickDoes su r st le ro log (tickIn limit delete log) (no 0 (m ∷ (d - m) ∷ [])) (withCount (r .count - m) r) st′ le′ ro′ log′
       unfolding after handedOut next
-      tick-hands =
+      handed =
           record {
             tables =
                 rw record-is at
@@ -129,3 +146,28 @@ module _ (su : Setup) (r : Record) (st le ro log : List ℕ) (limit : ℕ) (dele
                 (w .moved ∙ ap (relaid ro (r .count)) (without-first m es ∙ sym left-is)));
             log = rw hands (w .turned .wrote ∙ ap (λ (x : List LogRecord). sets log 0 (logBytes x)) (sym records-are));
           }
+
+      pub tick-hands : (n′ : Record) → n′ ≡ withCount (r .count - m) r
+          → TickDoes su r st le ro log (tickIn limit delete log) (tickPaper (HandedOut (record { m = m; remain = d - m }))) n′ st′ le′ ro′ log′
+      unfolding tickPaper
+      tick-hands n′ e = rw e handed
+
+-- what the parts ask, of a scheduler that was judged
+module _ {su : Setup} {r : Record} {st le ro : List ℕ} (s : Sound su r st le ro) where
+  pub clock-ok : InRange (r .clock)
+  clock-ok = facts s .clock
+
+  pub rows-ok : TableSound ro (r .count)
+  rows-ok = table-sound (facts s)
+
+  pub rows-held : Held ro (r .count)
+  rows-held = record { room = rows-ok .room }
+
+  pub store-ok : StoreSound (su .store) st le
+  store-ok = facts s .store
+
+  pub moment-ok : (m : Moment) → m ≡ momentOf (r .clock) → MomentInRange m
+  moment-ok m e = rw e (record { nanos = clock-ok .nanos })
+
+pub due-is : (clock : UnixTime) (m : Moment) (es : List Entry) (d : ℕ) → m ≡ momentOf clock → d ≡ below (instantOf m + 1) es → d ≡ due clock es
+due-is clock m es d e q = q ∙ rw e

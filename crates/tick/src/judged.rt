@@ -46,18 +46,31 @@ pub fn tick(
     if 0 < t {
         return refuse(rec, ScheduleRefusal::LogTooSmall(t));
     }
-    let m = turns::release(s, store, lens, rows, log, count, n, cap, rec.enabled, delete);
+    let m = turns::release(
+        s,
+        store,
+        lens,
+        rows,
+        log,
+        count,
+        n,
+        cap,
+        rec.enabled,
+        delete,
+    );
+    let rest = count - m;
+    let remain = due - m;
     Ticked {
-        next: schedule::with_count(rec, count - m),
+        next: schedule::with_count(rec, rest),
         answer: TickAnswer::HandedOut(Handed {
             m: m,
-            remain: due - m,
+            remain: remain,
         }),
     }
 }
 
 pub fn refuse(rec: Record, e: ScheduleRefusal) -> Ticked
-    ensures { λ c. ⌜ c ≡ record { next = rec; answer = Refused e } ⌝ }
+    ensures { λ c. ⌜ (c .next ≡ rec) × (c .answer ≡ TickAnswer.Refused e) ⌝ }
 {
     Ticked {
         next: rec,

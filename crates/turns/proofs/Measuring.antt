@@ -10,7 +10,8 @@ use Rattle.store.specs.Pools.{Pool, find}
 use Rattle.store.specs.View.{view}
 use Rattle.table.proofs.Rows.{drop-row, length-unpack}
 use Rattle.table.specs.Entries.{Entry, row, unpack}
-use Rattle.turns.proofs.Marking.{Stands, marked-more, marked-none, stands-first, stands-next}
+use Rattle.turns.proofs.Marking.{marked-more, marked-none}
+use Rattle.turns.proofs.Standing.{Stands, stands-first, stands-next}
 use Rattle.turns.specs.Marks.{Marked, marking, standing}
 use Rattle.turns.specs.Parts.{fitting}
 use Rattle.turns.specs.Turns.{leave, need}
@@ -81,7 +82,8 @@ module _ (su : Setup) (st le₀ w : List ℕ) (n cap : ℕ) (del : Bool) where
       measuring-next ok h l le′ q =
           let z = fit-go (leave del) used cap (used + 21 + len) (row w i) (drop (i + 1) (unpack n w)) (k .pools) spent l in
           let g = rw (drop-row n w i h) at (k .goes) in
-          let e : le′ ≡ marking del (allRows su) le (rowOf su (row w i .addr)) = q ∙ ap₂ (λ (x y : ℕ). marking del x le y) whole (there ∙ ap (rowOf su) at) in
+          let e : le′ ≡ marking del (allRows su) le (rowOf su (row w i .addr))
+          = q ∙ ap₂ (λ (x y : ℕ). marking del x le y) whole (there ∙ ap (rowOf su) at) in
           let m = measuring-long ok in
           record {
             within = omega arith;

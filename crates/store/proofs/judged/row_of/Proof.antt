@@ -8,16 +8,23 @@ use Rattle.store.proofs.judged.row_of.Statement.{statement}
 use Rattle.store.proofs.judged.row_of.Tie as tie
 
 returns : tie.Need-returns
-returns c = row-is-1 _ _ _ _ _ (c .before .before .before .wide .ensures .0 ∙ c .before .before .before .before .decode .ensures .0) (c .before .before .wide2 .ensures .0 ∙ c .before .before .before .before .decode .ensures .1)
+returns c =
+    let d = c .before .before in
+    row-is-1 _ _ _ _ _ (d .before .wide .ensures .0 ∙ d .before .before .decode .ensures .0) (d .wide2 .ensures .0 ∙ d .before .before .decode .ensures .1)
     (c .before .if1 .taken) (c .rows .ensures)
 
 returns-2 : tie.Need-returns-2
-returns-2 c = row-is-2 _ _ _ _ _ (c .before .before .before .before .before .wide .ensures .0 ∙ c .before .before .before .before .before .before .decode .ensures .0) (c .before .before .before .before .wide2 .ensures .0 ∙ c .before .before .before .before .before .before .decode .ensures .1)
+returns-2 c =
+    let d = c .before .before .before .before in
+    row-is-2 _ _ _ _ _ (d .before .wide .ensures .0 ∙ d .before .before .decode .ensures .0) (d .wide2 .ensures .0 ∙ d .before .before .decode .ensures .1)
     (c .before .before .before .if1 .left) (rw (c .before .before .slots-at .ensures .0) at (c .before .if2 .taken)) (c .rows2 .ensures)
 
 returns-3 : tie.Need-returns-3
-returns-3 c = row-is-3 _ _ _ _ _ (c .before .before .before .before .before .wide .ensures .0 ∙ c .before .before .before .before .before .before .decode .ensures .0) (c .before .before .before .before .wide2 .ensures .0 ∙ c .before .before .before .before .before .before .decode .ensures .1)
-    (c .before .before .before .if1 .left) (rw (c .before .before .slots-at .ensures .0) at (c .before .if2 .left)) (ap (_+ c .before .before .before .before .wide2 .result) (c .rows-before .ensures .0))
+returns-3 c =
+    let d = c .before .before .before .before in
+    row-is-3 _ _ _ _ _ (d .before .wide .ensures .0 ∙ d .before .before .decode .ensures .0) (d .wide2 .ensures .0 ∙ d .before .before .decode .ensures .1)
+    (c .before .before .before .if1 .left) (rw (c .before .before .slots-at .ensures .0) at (c .before .if2 .left))
+    (ap (_+ d .wide2 .result) (c .rows-before .ensures .0))
 
 pub row-of-spec : {M : Type 1} → statement M
 row-of-spec =

@@ -1,6 +1,6 @@
 -- `turns::measure::bare_of` meets its contract.
 -- Assumes nothing.
-use Rattle.turns.proofs.Marking.{bare-free, bare-low, bare-word}
+use Rattle.turns.proofs.Unmarking.{bare-free, bare-low, bare-word}
 use native.Mathlib.Omega.{arith}
 use borrow.Author.Needs.{needs}
 use Rattle.turns.proofs.measure.bare_of.Statement.{statement}

@@ -14,7 +14,10 @@ returns-2 : tie.Need-returns-2
 returns-2 c = (standing-gone _ _ _ (c .before .before .if1 .left) (c .if2 .taken), omega arith)
 
 returns-3 : tie.Need-returns-3
-returns-3 c = (c .wide .ensures .0 ∙ standing-there _ _ _ (c .before .before .before .if1 .left) (c .before .if2 .left), omega (arith, c .wide .ensures .0, c .before .if2 .left))
+returns-3 c = (
+  c .wide .ensures .0 ∙ standing-there _ _ _ (c .before .before .before .if1 .left) (c .before .if2 .left),
+  omega (arith, c .wide .ensures .0, c .before .if2 .left),
+)
 
 pub bytes-left-spec : {M : Type 1} → statement M
 bytes-left-spec =

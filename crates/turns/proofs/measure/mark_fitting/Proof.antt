@@ -27,27 +27,37 @@ row-of-requires : tie.Need-row-of-requires Inv-loop μ-loop
 row-of-requires c κs = setup-few _ (c .before .before .before .before .before .before .before .pre .0 .setup)
 
 bytes-left-requires : tie.Need-bytes-left-requires Inv-loop μ-loop
-bytes-left-requires c κs = omega (arith, c .before .before .before .before .before .rows .ensures, measuring-long _ _ _ _ _ _ _ _ _ _ (c .before .before .before .before .loop .inv) (c .before .before .before .before .before .before .before .before .before .pre .0))
+bytes-left-requires c κs =
+    let l = c .before .before .before .before in
+    omega (arith, l .before .rows .ensures, measuring-long _ _ _ _ _ _ _ _ _ _ (l .loop .inv) (l .before .before .before .before .before .pre .0))
 
 add-next : tie.Need-add-next Inv-loop μ-loop
-add-next c = omega (arith, c .before .before .before .before .before .loop .inv .fits, c .before .before .before .before .before .before .before .before .before .before .pre .1 .1 .1)
+add-next c =
+    let l = c .before .before .before .before .before in
+    omega (arith, l .loop .inv .fits, l .before .before .before .before .before .pre .1 .1 .1)
 
 add-next-2 : tie.Need-add-next-2 Inv-loop μ-loop
-add-next-2 c = omega (arith, c .before .before .before .before .before .loop .inv .fits, c .before .before .before .before .before .before .before .before .before .before .pre .1 .1 .1, c .bytes-left .ensures .1)
+add-next-2 c =
+    let l = c .before .before .before .before .before in
+    omega (arith, l .loop .inv .fits, l .before .before .before .before .before .pre .1 .1 .1, c .bytes-left .ensures .1)
 
 same-length : tie.Need-same-length Inv-loop μ-loop
 same-length c = c .before .before .before .before .before .before .loop .inv .marks .same-length
 
 returns : tie.Need-returns Inv-loop μ-loop
-returns c = (
-  measuring-stop _ _ _ _ _ _ _ _ _ _ (c .before .before .before .before .before .before .loop .inv) _ _ _ _
-      (c .before .before .before .before .tc-info .ensures .1) (c .before .before .before .row-of .ensures) (c .before .before .before .before .before .before .before .rows .ensures) (c .before .bytes-left .ensures .0)
-      (c .before .before .before .before .before .loop-test .taken) (c .if1 .taken),
-  c .before .before .before .before .before .before .loop .inv .marks,
-)
+returns c =
+    let d = c .before in
+    let l = d .before .before .before .before .before in (
+      measuring-stop _ _ _ _ _ _ _ _ _ _ (l .loop .inv) _ _ _ _
+          (d .before .before .before .tc-info .ensures .1) (d .before .before .row-of .ensures) (l .before .rows .ensures) (d .bytes-left .ensures .0)
+          (d .before .before .before .before .loop-test .taken) (c .if1 .taken),
+      l .loop .inv .marks,
+    )
 
 mark-requires : tie.Need-mark-requires Inv-loop μ-loop
-mark-requires c κs = omega (arith, c .before .before .before .before .before .before .before .before .rows .ensures, measuring-long _ _ _ _ _ _ _ _ _ _ (c .before .before .before .before .before .before .before .loop .inv) (c .before .before .before .before .before .before .before .before .before .before .before .before .pre .0))
+mark-requires c κs =
+    let l = c .before .before .before .before .before .before .before in
+    omega (arith, l .before .rows .ensures, measuring-long _ _ _ _ _ _ _ _ _ _ (l .loop .inv) (l .before .before .before .before .before .pre .0))
 
 add-i : tie.Need-add-i Inv-loop μ-loop
 add-i c = search needs
@@ -56,9 +66,13 @@ loop-less : tie.Need-loop-less Inv-loop μ-loop
 loop-less c = search needs
 
 loop-again : tie.Need-loop-again Inv-loop μ-loop
-loop-again c = measuring-next _ _ _ _ _ _ _ _ _ _ (c .before .before .before .before .before .before .before .before .before .before .loop .inv) _ _ _ _
-    (c .before .before .before .before .before .before .before .before .tc-info .ensures .1) (c .before .before .before .before .before .before .before .row-of .ensures) (c .before .before .before .before .before .before .before .before .before .before .before .rows .ensures) (c .before .before .before .before .before .bytes-left .ensures .0)
-    (c .before .before .before .before .before .before .before .before .before .before .before .before .before .before .before .pre .0) (c .before .before .before .before .before .before .before .before .before .loop-test .taken) (c .before .before .before .before .if1 .left) _ (c .before .before .mark .ensures)
+loop-again c =
+    let d = c .before .before .before .before .before in
+    let l = d .before .before .before .before .before in
+    measuring-next _ _ _ _ _ _ _ _ _ _ (l .loop .inv) _ _ _ _
+    (d .before .before .before .tc-info .ensures .1) (d .before .before .row-of .ensures) (l .before .rows .ensures) (d .bytes-left .ensures .0)
+    (l .before .before .before .before .before .pre .0) (d .before .before .before .before .loop-test .taken) (c .before .before .before .before .if1 .left)
+    _ (c .before .before .mark .ensures)
 
 same-length-2 : tie.Need-same-length-2 Inv-loop μ-loop
 same-length-2 c = c .before .loop .inv .marks .same-length

@@ -1,7 +1,7 @@
 -- `turns::measure::unmark` meets its contract.
 -- Assumes nothing.
 use Prim.Native.Nat.{_-_, _≤_}
-use Rattle.turns.proofs.Marking.{unmarked-more, unmarked-none}
+use Rattle.turns.proofs.Unmarking.{unmarked-more, unmarked-none}
 use Rattle.turns.specs.Marks.{Unmarked}
 use mathlib.Core.Path.{_≡_}
 use native.Mathlib.Omega.{arith}
@@ -25,10 +25,9 @@ slice-write-lens : tie.Need-slice-write-lens Inv-loop μ-loop
 slice-write-lens c = omega (arith, c .before .before .before .loop .inv .1 .same-length)
 
 loop-again : tie.Need-loop-again Inv-loop μ-loop
-loop-again c = (
-  omega arith,
-  rw (c .bare-of .ensures) (unmarked-more _ _ _ (omega (arith, c .before .before .before .loop .inv .1 .same-length)) (c .before .before .before .loop .inv .1)),
-)
+loop-again c =
+    let u = c .before .before .before .loop .inv .1 in
+    (omega arith, rw (c .bare-of .ensures) (unmarked-more _ _ _ (omega (arith, u .same-length)) u))
 
 same-length : tie.Need-same-length Inv-loop μ-loop
 same-length c = c .before .loop .inv .1 .same-length

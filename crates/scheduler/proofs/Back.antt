@@ -1,0 +1,206 @@
+-- Each refusal of the schedule, and each answer of its calls, found again from its number and values.
+-- Assumes nothing.
+use Prim.Native.Nat.{ℕ}
+use Rattle.deletions.specs.Answers.{clearedPaper, freedPaper, lastPaper, retrievedPaper, takenPaper}
+use Rattle.deletions.specs.declared.ClearAnswer.the-variants as Cl
+use Rattle.deletions.specs.declared.ClearAnswer.{ClearAnswer}
+use Rattle.deletions.specs.declared.FreeAnswer.the-variants as F
+use Rattle.deletions.specs.declared.FreeAnswer.{FreeAnswer}
+use Rattle.deletions.specs.declared.Last.the-variants as La
+use Rattle.deletions.specs.declared.Last.{Last}
+use Rattle.deletions.specs.declared.Retrieved.the-variants as R
+use Rattle.deletions.specs.declared.Retrieved.{Retrieved}
+use Rattle.deletions.specs.declared.TakeAnswer.the-variants as Ta
+use Rattle.deletions.specs.declared.TakeAnswer.{TakeAnswer}
+use Rattle.deletions.specs.declared.Tally.{Tally}
+use Rattle.insertions.specs.Answers.{insertedPaper}
+use Rattle.insertions.specs.declared.InsertAnswer.the-variants as I
+use Rattle.insertions.specs.declared.InsertAnswer.{InsertAnswer}
+use Rattle.record.proofs.Numbers.{numbered}
+use Rattle.record.specs.Refusals.{donePaper, paper, wordOf}
+use Rattle.record.specs.declared.Done.the-variants as D
+use Rattle.record.specs.declared.Done.{Done}
+use Rattle.record.specs.declared.ScheduleRefusal.the-variants.{BadTime, BadTimestamp, LogTooSmall, NestedScheduledTc, ReleaseTimeInTimeMargin, ReversedWindow, ScheduleFull, Store, TcDataEmpty, TcUnreadable, WrongService, WrongSubservice}
+use Rattle.record.specs.declared.ScheduleRefusal.{ScheduleRefusal}
+use Rattle.rules.specs.Papers.{Paper, no}
+use Rattle.schedule.specs.Answers.{countedPaper, verdictPaper}
+use Rattle.schedule.specs.declared.Counted.the-variants as Co
+use Rattle.schedule.specs.declared.Counted.{Counted}
+use Rattle.schedule.specs.declared.Verdict.the-variants as Ve
+use Rattle.schedule.specs.declared.Verdict.{Verdict}
+use Rattle.scheduler.specs.Words.{Inside, Words}
+use Rattle.store.proofs.Numbers.{numbered as store-numbered}
+use Rattle.store.specs.Refusals.{paper as storePaper}
+use Rattle.store.specs.declared.StoreIdError.the-variants.{InvalidPacketIdx, InvalidSubpool}
+use Rattle.store.specs.declared.StoreRefusal.the-variants.{BadBuffers, BadSetup, BufferTooSmall, DataDoesNotExist, DataTooLarge, InvalidStoreId, StateDamaged, StoreFull}
+use Rattle.store.specs.declared.StoreRefusal.{StoreRefusal}
+use Rattle.store_laws.proofs.Back.{back as storeBack, there-and-back as store-there-and-back}
+use Rattle.time.specs.declared.Margin.{Margin}
+use Rattle.time.specs.declared.UnixTime.{UnixTime}
+use borrow.Author.Tests.{ne-eqb}
+use lib.Dec.{eqb}
+use lib.IntN.{negsuc, pos, ℤ}
+use lib.ListN.{drop, getD}
+use mathlib.Core.Bool.{cond, false}
+use mathlib.Core.List.{List}
+use mathlib.Core.Path.{_∙_, _≡_, ap, refl}
+use mir.Facts.{toZ-ofZ}
+use mir.Syntax.{w64}
+use mir.Val.{SFits, ofZ, toZ}
+use native.Mathlib.Omega.{arith}
+
+-- a signed second, from its two's complement
+word-is : (z : ℤ) → wordOf z ≡ ofZ w64 z
+word-is (pos n) = refl
+word-is (negsuc n) = omega arith
+
+word-back : (z : ℤ) → SFits w64 z → toZ w64 (wordOf z) ≡ z
+word-back z f = ap (toZ w64) (word-is z) ∙ toZ-ofZ f
+
+timeOf : ℕ → ℕ → UnixTime
+timeOf s n = record { secs = toZ w64 s; nanos = n }
+
+marginOf : ℕ → ℕ → Margin
+marginOf s n = record { secs = s; nanos = n }
+
+-- the refusal of a number and values; all other numbers are the store's
+refusalOf : ℕ → List ℕ → ScheduleRefusal
+refusalOf n vs =
+    cond (eqb n 4) BadTime
+    (cond (eqb n 5) (WrongService (getD vs 0 0))
+    (cond (eqb n 6) (WrongSubservice (getD vs 0 0))
+    (cond (eqb n 7) TcDataEmpty
+    (cond (eqb n 8) BadTimestamp
+    (cond (eqb n 9) TcUnreadable
+    (cond (eqb n 10) NestedScheduledTc
+    (cond (eqb n 13)
+    (ReleaseTimeInTimeMargin (timeOf (getD vs 0 0) (getD vs 1 0)) (marginOf (getD vs 2 0) (getD vs 3 0)) (timeOf (getD vs 4 0) (getD vs 5 0)))
+    (cond (eqb n 14) ScheduleFull
+    (cond (eqb n 15) ReversedWindow
+    (cond (eqb n 20) (LogTooSmall (getD vs 0 0)) (Store (storeBack (no n vs)))))))))))))
+
+pub back : Paper → ScheduleRefusal
+back p = refusalOf (p .number) (p .values)
+
+-- the store's refusals have none of the schedule's numbers
+store-of : (e : StoreRefusal) → refusalOf (storePaper e .number) (storePaper e .values) ≡ Store (storeBack (storePaper e))
+unfolding refusalOf storePaper
+store-of BadSetup = refl
+store-of BadBuffers = refl
+store-of StateDamaged = refl
+store-of (DataTooLarge n) = refl
+store-of (StoreFull k) = refl
+store-of (InvalidStoreId (InvalidSubpool k)) = refl
+store-of (InvalidStoreId (InvalidPacketIdx k)) = refl
+store-of (DataDoesNotExist a) = refl
+store-of (BufferTooSmall f n) = refl
+
+times-back : (c r : UnixTime) (m : Margin) → SFits w64 (c .secs) → SFits w64 (r .secs)
+    → ReleaseTimeInTimeMargin (timeOf (wordOf (c .secs)) (c .nanos)) (marginOf (m .secs) (m .nanos)) (timeOf (wordOf (r .secs)) (r .nanos))
+    ≡ ReleaseTimeInTimeMargin c m r
+unfolding timeOf marginOf
+times-back c r m f g = rw (word-back (c .secs) f, word-back (r .secs) g)
+
+pub there-and-back : (e : ScheduleRefusal) → Words e → back (paper e) ≡ e
+unfolding back paper refusalOf
+there-and-back (Store e) w = store-of e ∙ ap Store (store-there-and-back e)
+there-and-back BadTime w = refl
+there-and-back (WrongService n) w = refl
+there-and-back (WrongSubservice n) w = refl
+there-and-back TcDataEmpty w = refl
+there-and-back BadTimestamp w = refl
+there-and-back TcUnreadable w = refl
+there-and-back NestedScheduledTc w = refl
+there-and-back (ReleaseTimeInTimeMargin c m r) w = let f = w c m r refl in times-back c r m (f .0) (f .1)
+there-and-back ScheduleFull w = refl
+there-and-back ReversedWindow w = refl
+there-and-back (LogTooSmall t) w = refl
+
+no-answer : (e : ScheduleRefusal) → eqb (paper e .number) 0 ≡ false
+no-answer e = ne-eqb (paper e .number) 0 (numbered e)
+
+-- ---- the answers of each call
+
+pub doneOf : Paper → Done
+doneOf p = cond (eqb (p .number) 0) D.Ok (D.Refused (back p))
+
+pub done-back : (a : Done) → Inside D.Refused a → doneOf (donePaper a) ≡ a
+unfolding doneOf donePaper
+done-back D.Ok w = refl
+done-back (D.Refused e) w = rw (no-answer e, there-and-back e (w e refl))
+
+pub verdictOf : Paper → Verdict
+verdictOf p = cond (eqb (p .number) 0) Ve.Fine (Ve.Refused (back p))
+
+pub verdict-back : (a : Verdict) → Inside Ve.Refused a → verdictOf (verdictPaper a) ≡ a
+unfolding verdictOf verdictPaper
+verdict-back Ve.Fine w = refl
+verdict-back (Ve.Refused e) w = rw (no-answer e, there-and-back e (w e refl))
+
+pub countedOf : Paper → Counted
+countedOf p = cond (eqb (p .number) 0) (Co.Count (getD (p .values) 0 0)) (Co.Refused (back p))
+
+pub counted-back : (a : Counted) → Inside Co.Refused a → countedOf (countedPaper a) ≡ a
+unfolding countedOf countedPaper
+counted-back (Co.Count n) w = refl
+counted-back (Co.Refused e) w = rw (no-answer e, there-and-back e (w e refl))
+
+pub retrievedOf : Paper → Retrieved
+retrievedOf p = cond (eqb (p .number) 0) (R.Rows (record { first = getD (p .values) 0 0; number = getD (p .values) 1 0 })) (R.Refused (back p))
+
+pub retrieved-back : (a : Retrieved) → Inside R.Refused a → retrievedOf (retrievedPaper a) ≡ a
+unfolding retrievedOf retrievedPaper
+retrieved-back (R.Rows x) w = refl
+retrieved-back (R.Refused e) w = rw (no-answer e, there-and-back e (w e refl))
+
+pub insertedOf : Paper → InsertAnswer
+insertedOf p = cond (eqb (p .number) 0)
+    (I.Inserted (record { addr = getD (p .values) 0 0; «request_id» = getD (p .values) 1 0 })) (I.Refused (back p))
+
+pub inserted-back : (a : InsertAnswer) → Inside I.Refused a → insertedOf (insertedPaper a) ≡ a
+unfolding insertedOf insertedPaper
+inserted-back (I.Inserted x) w = refl
+inserted-back (I.Refused e) w = rw (no-answer e, there-and-back e (w e refl))
+
+lastOf : Paper → Last
+lastOf p = cond (eqb (p .number) 0) La.None (La.Missing (storeBack p))
+
+last-back : (a : Last) → lastOf (lastPaper a) ≡ a
+unfolding lastOf lastPaper
+last-back La.None = refl
+last-back (La.Missing e) = rw (store-numbered e, store-there-and-back e)
+
+tallyOf : List ℕ → Tally
+tallyOf vs = record { deleted = getD vs 0 0; missing = getD vs 1 0; last = lastOf (no (getD vs 2 0) (drop 3 vs)) }
+
+pub clearedOf : Paper → ClearAnswer
+clearedOf p = cond (eqb (p .number) 0) (Cl.Done (tallyOf (p .values))) (Cl.Refused (back p))
+
+pub cleared-back : (a : ClearAnswer) → Inside Cl.Refused a → clearedOf (clearedPaper a) ≡ a
+unfolding clearedOf clearedPaper tallyOf
+cleared-back (Cl.Done t) w = ap (λ (l : Last). Cl.Done (record { deleted = t .deleted; missing = t .missing; last = l })) (last-back (t .last))
+cleared-back (Cl.Refused e) w = rw (no-answer e, there-and-back e (w e refl))
+
+-- by request ID: the first value says whether there was a match
+pub takenOf : Paper → TakeAnswer
+takenOf p = cond (eqb (p .number) 0) (cond (eqb (getD (p .values) 0 0) 0) Ta.NoMatch (Ta.Address (getD (p .values) 1 0))) (Ta.Refused (back p))
+
+pub taken-back : (a : TakeAnswer) → Inside Ta.Refused a → takenOf (takenPaper a) ≡ a
+unfolding takenOf takenPaper
+taken-back Ta.NoMatch w = refl
+taken-back (Ta.Address a) w = refl
+taken-back (Ta.Refused e) w = rw (no-answer e, there-and-back e (w e refl))
+
+-- and the second whether the packet was there
+matchOf : List ℕ → FreeAnswer
+matchOf vs = cond (eqb (getD vs 1 0) 1) F.Deleted (F.Missing (storeBack (no (getD vs 2 0) (drop 3 vs))))
+
+pub freedOf : Paper → FreeAnswer
+freedOf p = cond (eqb (p .number) 0) (cond (eqb (getD (p .values) 0 0) 0) F.NoMatch (matchOf (p .values))) (F.Refused (back p))
+
+pub freed-back : (a : FreeAnswer) → Inside F.Refused a → freedOf (freedPaper a) ≡ a
+unfolding freedOf freedPaper matchOf
+freed-back F.NoMatch w = refl
+freed-back F.Deleted w = refl
+freed-back (F.Missing e) w = ap F.Missing (store-there-and-back e)
+freed-back (F.Refused e) w = rw (no-answer e, there-and-back e (w e refl))

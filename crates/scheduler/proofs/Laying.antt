@@ -1,0 +1,205 @@
+-- Subpools that fit the setup, laid out as the two lent lists, are read back as they were; and what is read from sound lists fits.
+-- Assumes nothing.
+use Prim.Native.Nat.{_*_, _+_, _<_, _≤_, suc, zero, ℕ}
+use Rattle.rules.proofs.All.{all-at, all-each}
+use Rattle.scheduler.proofs.Subpools.{each-fits}
+use Rattle.scheduler.specs.Fits.{PoolFits, PoolsFit, SlotFits, SlotsFit}
+use Rattle.store.proofs.Bounds.{bounds, sized-fits}
+use Rattle.store.proofs.Find.{slot-free, slot-taken}
+use Rattle.store.proofs.Lists.{part-length}
+use Rattle.store.proofs.Wrote.{within}
+use Rattle.store.specs.Judge.{Sized, Sound, poolOkAt, setupOk}
+use Rattle.store.specs.Layout.{allBytes, allRows, bytesBefore, rowsBefore, sizeAt, slotsAt}
+use Rattle.store.specs.Limits.{maxSlotSize, storeFree}
+use Rattle.store.specs.Pools.{Pool, Slot, free, taken}
+use Rattle.store.specs.View.{Leaves, bytesAt, bytesOf, each, lenAt, lenOf, lensOf, lensWith, marked, part, poolIn, rawOf, slotBytes, slotFrom, slotIn, slotLens, storeWith, view}
+use Rattle.store.specs.declared.Setup.{Setup}
+use Rattle.store_laws.proofs.Fitting.{AllFit, Fitting}
+use borrow.Author.Tests.{eqb-false, leb-true}
+use lib.Dec.{eqb}
+use lib.ListN.{drop, getD, length, length-append, length-drop, take}
+use lib.Seq.{drop-at, drop-drop, getD-drop, take-at}
+use mathlib.Core.Bool.{Bool, false, true}
+use mathlib.Core.List.{List, [], _++_, _∷_, append-assoc}
+use mathlib.Core.Logic.{_⊎_, ⊎-elim}
+use mathlib.Core.Path.{_∙_, _≡_, ap, ap₂, refl, subst, sym}
+use native.Mathlib.Omega.{arith}
+
+pool≡ : {a b : Pool} → a .size ≡ b .size → a .slots ≡ b .slots → a ≡ b
+pool≡ p q = λ i. record { size = p i; slots = q i }
+
+-- what lies behind a part
+behind : (f n g : ℕ) (l a r : List ℕ) → drop f l ≡ a ++ r → length a ≡ n → f + n ≡ g → drop g l ≡ r
+behind f n g l a r e h k = ap (λ (m : ℕ). drop m l) (sym k) ∙ sym (drop-drop n f l) ∙ ap (drop n) e ∙ drop-at a r n h
+
+-- ---- one slot
+
+raw-length : (z : ℕ) (x : Slot) → SlotFits z x → length (rawOf x) ≡ z
+raw-length z (free b) h = h
+raw-length z (taken n b) h = h .0
+
+slot-back : (z : ℕ) (x : Slot) → SlotFits z x → z < storeFree → slotFrom (lenOf x) (rawOf x) ≡ x
+slot-back z (free b) h l = slot-free storeFree b refl
+slot-back z (taken n b) h l = slot-taken n b (λ e. omega (arith, h .1))
+
+slot-fits : (z w : ℕ) (b : List ℕ) → (w ≡ storeFree) ⊎ (w ≤ z) → length b ≡ z → SlotFits z (slotFrom w b)
+unfolding marked
+slot-fits z w b h l = go (eqb w storeFree) refl
+  where
+    go : (t : Bool) → eqb w storeFree ≡ t → SlotFits z (marked t w b)
+    go true e = l
+    go false e = (l, ⊎-elim (λ f. absurd (eqb-false w storeFree e f)) (λ m. m) h)
+
+-- ---- the slots of a subpool
+
+module _ (su : Setup) (st le : List ℕ) (k : ℕ) (small : sizeAt su k < storeFree) where
+  slots-back : (xs : List Slot) (i : ℕ) (rb rl : List ℕ) → SlotsFit (sizeAt su k) xs
+      → drop (bytesBefore su k + i * sizeAt su k) st ≡ slotBytes xs ++ rb → drop (rowsBefore su k + i) le ≡ slotLens xs ++ rl
+      → each (slotIn su st le k) i (length xs) ≡ xs
+  unfolding each lenAt bytesAt part
+  slots-back [] i rb rl h p q = refl
+  slots-back (x ∷ xs) i rb rl h p q =
+      let z = sizeAt su k in
+      let f = bytesBefore su k + i * z in
+      let g = rowsBefore su k + i in
+      let n = raw-length z x (h .0) in
+      let p₁ : drop f st ≡ rawOf x ++ (slotBytes xs ++ rb) = p ∙ append-assoc (rawOf x) (slotBytes xs) rb in
+      let b : take z (drop f st) ≡ rawOf x = ap (take z) p₁ ∙ take-at (rawOf x) (slotBytes xs ++ rb) z n in
+      let o : g ≡ g + 0 = omega arith in
+      let w : getD le g 0 ≡ lenOf x = ap (λ (j : ℕ). getD le j 0) o ∙ sym (getD-drop g le 0 0) ∙ ap (λ (l : List ℕ). getD l 0 0) q in
+      ap₂ _∷_ (ap₂ slotFrom w b ∙ slot-back z x (h .0) small)
+      (slots-back xs (suc i) rb rl (h .1) (behind f z (bytesBefore su k + suc i * z) st (rawOf x) (slotBytes xs ++ rb) p₁ n (omega arith))
+      (behind g 1 (rowsBefore su k + suc i) le (lenOf x ∷ []) (slotLens xs ++ rl) q refl (omega arith)))
+
+slots-bytes : (z : ℕ) (xs : List Slot) → SlotsFit z xs → length (slotBytes xs) ≡ length xs * z
+slots-bytes z [] h = omega arith
+slots-bytes z (x ∷ xs) h = length-append (rawOf x) (slotBytes xs) ∙ omega (arith, raw-length z x (h .0), slots-bytes z xs (h .1))
+
+slots-lens : (xs : List Slot) → length (slotLens xs) ≡ length xs
+slots-lens [] = refl
+slots-lens (x ∷ xs) = ap suc (slots-lens xs)
+
+slots-each : (f : ℕ → Slot) (z n i : ℕ) → ((t : ℕ) → t < i + n → SlotFits z (f t)) → SlotsFit z (each f i n)
+unfolding each
+slots-each f z zero i h = tt
+slots-each f z (suc n) i h = (h i (omega arith), slots-each f z n (suc i) (λ t l. h t (omega arith)))
+
+each-many : {A : Type 0} (f : ℕ → A) (n i : ℕ) → length (each f i n) ≡ n
+unfolding each
+each-many f zero i = refl
+each-many f (suc n) i = ap suc (each-many f n (suc i))
+
+-- ---- the subpools
+
+module _ (su : Setup) where
+  fit-le : (ps : List Pool) (k : ℕ) → PoolsFit su k ps → k ≤ su .pools
+  fit-le [] k h = omega arith
+  fit-le (p ∷ ps) k h = let r = fit-le ps (suc k) (h .1) in omega arith
+
+  as-setup : (k : ℕ) (p : Pool) → PoolFits su k p → SlotsFit (sizeAt su k) (p .slots)
+  as-setup k p h = subst (λ (z : ℕ). SlotsFit z (p .slots)) (h .size) (h .slots)
+
+  pool-bytes : (k : ℕ) (p : Pool) → PoolFits su k p → length (slotBytes (p .slots)) ≡ slotsAt su k * sizeAt su k
+  pool-bytes k p h = slots-bytes (sizeAt su k) (p .slots) (as-setup k p h) ∙ ap (λ (n : ℕ). n * sizeAt su k) (h .number)
+
+  pool-lens : (k : ℕ) (p : Pool) → PoolFits su k p → length (slotLens (p .slots)) ≡ slotsAt su k
+  pool-lens k p h = slots-lens (p .slots) ∙ h .number
+
+  bytes-many : (ps : List Pool) (k : ℕ) → PoolsFit su k ps → bytesBefore su k + length (bytesOf ps) ≡ allBytes su
+  unfolding bytesBefore bytesOf
+  bytes-many [] k h = let e = ap (bytesBefore su) h in omega arith
+  bytes-many (p ∷ ps) k h =
+      let r = bytes-many ps (suc k) (h .1) in
+      let a = length-append (slotBytes (p .slots)) (bytesOf ps) in
+      omega (arith, pool-bytes k p (h .0))
+
+  lens-many : (ps : List Pool) (k : ℕ) → PoolsFit su k ps → rowsBefore su k + length (lensOf ps) ≡ allRows su
+  unfolding rowsBefore lensOf
+  lens-many [] k h = let e = ap (rowsBefore su) h in omega arith
+  lens-many (p ∷ ps) k h =
+      let r = lens-many ps (suc k) (h .1) in
+      let a = length-append (slotLens (p .slots)) (lensOf ps) in
+      omega (arith, pool-lens k p (h .0))
+
+  small-sizes : setupOk su ≡ true → (k : ℕ) → k < su .pools → sizeAt su k < storeFree
+  unfolding setupOk
+  small-sizes ok k l =
+      let h : sizeAt su k ≤ maxSlotSize = leb-true _ _ (all-each _ (all-at (poolOkAt su) (su .pools) (all-each _ ok .1 .1 .0) k l) .1 .0) in
+      omega arith
+
+  module _ (ok : setupOk su ≡ true) (st le : List ℕ) where
+    pool-back : (p : Pool) (k : ℕ) (rb rl : List ℕ) → k < su .pools → PoolFits su k p
+        → drop (bytesBefore su k) st ≡ slotBytes (p .slots) ++ rb → drop (rowsBefore su k) le ≡ slotLens (p .slots) ++ rl
+        → poolIn su st le k ≡ p
+    pool-back p k rb rl l h b r =
+        let e : bytesBefore su k + 0 * sizeAt su k ≡ bytesBefore su k = omega arith in
+        let f : rowsBefore su k + 0 ≡ rowsBefore su k = omega arith in
+        pool≡ (sym (h .size))
+        (ap (each (slotIn su st le k) 0) (sym (h .number))
+        ∙ slots-back su st le k (small-sizes ok k l) (p .slots) 0 rb rl (as-setup k p h) (ap (λ (m : ℕ). drop m st) e ∙ b)
+        (ap (λ (m : ℕ). drop m le) f ∙ r))
+
+    pools-back : (ps : List Pool) (k n : ℕ) (rb rl : List ℕ) → k + n ≡ su .pools → PoolsFit su k ps
+        → drop (bytesBefore su k) st ≡ bytesOf ps ++ rb → drop (rowsBefore su k) le ≡ lensOf ps ++ rl
+        → each (poolIn su st le) k n ≡ ps
+    unfolding each bytesOf lensOf bytesBefore rowsBefore
+    pools-back [] k zero rb rl e h b r = refl
+    pools-back [] k (suc n) rb rl e h b r = absurd (omega arith)
+    pools-back (p ∷ ps) k zero rb rl e h b r = let m = fit-le ps (suc k) (h .1) in absurd (omega arith)
+    pools-back (p ∷ ps) k (suc n) rb rl e h b r =
+        let b₁ = b ∙ append-assoc (slotBytes (p .slots)) (bytesOf ps) rb in
+        let r₁ = r ∙ append-assoc (slotLens (p .slots)) (lensOf ps) rl in
+        ap₂ _∷_ (pool-back p k _ _ (omega arith) (h .0) b₁ r₁)
+        (pools-back ps (suc k) n rb rl (omega arith) (h .1) (behind _ _ _ st (slotBytes (p .slots)) _ b₁ (pool-bytes k p (h .0)) refl)
+        (behind _ _ _ le (slotLens (p .slots)) _ r₁ (pool-lens k p (h .0)) refl))
+
+-- what a public call writes: the lists stand for the subpools, and nothing else moved
+module _ (su : Setup) (st le : List ℕ) (ps : List Pool) (s : Sized su st le) (h : PoolsFit su 0 ps) where
+  all-bytes : length (bytesOf ps) ≡ allBytes su
+  unfolding bytesBefore
+  all-bytes = omega (arith, bytes-many su ps 0 h)
+
+  all-lens : length (lensOf ps) ≡ allRows su
+  unfolding rowsBefore
+  all-lens = omega (arith, lens-many su ps 0 h)
+
+  seen-laid : view su (storeWith su st ps) (lensWith su le ps) ≡ ps
+  unfolding view storeWith lensWith bytesBefore rowsBefore
+  seen-laid = pools-back su (s .setup) _ _ ps 0 (su .pools) (drop (allBytes su) st) (drop (allRows su) le) (omega arith) h refl refl
+
+  pub leaves-laid : Leaves su st le ps (storeWith su st ps) (lensWith su le ps)
+  unfolding storeWith lensWith
+  leaves-laid =
+      let f = sized-fits s in
+      let m = all-bytes in
+      let n = all-lens in
+      record {
+        seen = seen-laid;
+        beyond = drop-at (bytesOf ps) (drop (allBytes su) st) (allBytes su) m;
+        beyond-lens = drop-at (lensOf ps) (drop (allRows su) le) (allRows su) n;
+        same-length = simp (length-append, length-drop) (omega (arith, f .1));
+        same-rows = simp (length-append, length-drop) (omega (arith, f .2));
+      }
+
+-- what sound lists stand for
+pub view-fits : (su : Setup) (st le : List ℕ) → Sound su st le → PoolsFit su 0 (view su st le)
+unfolding view lenAt bytesAt
+view-fits su st le s =
+    each-fits su (poolIn su st le) (su .pools) 0 (omega arith)
+    (λ k l. record {
+      size = refl;
+      number = each-many _ (slotsAt su k) 0;
+      slots = slots-each _ (sizeAt su k) (slotsAt su k) 0
+          (λ i m. let w = within su (length st) le (bounds s) k i l (omega arith) in
+          slot-fits (sizeAt su k) _ _ (bounds s .rows k i l (omega arith)) (part-length _ (sizeAt su k) st (w .bytes-fit)));
+    })
+
+-- the part of it that the store's own laws speak of
+all-fit : (z : ℕ) (xs : List Slot) → SlotsFit z xs → AllFit z xs
+all-fit z [] h = tt
+all-fit z (free b ∷ xs) h = (tt, all-fit z xs (h .1))
+all-fit z (taken n b ∷ xs) h = (h .0 .1, all-fit z xs (h .1))
+
+pub fitting : (su : Setup) (ps : List Pool) (k : ℕ) → PoolsFit su k ps → Fitting ps
+fitting su [] k h = tt
+fitting su (p ∷ ps) k h = (all-fit (p .size) (p .slots) (h .0 .slots), fitting su ps (suc k) (h .1))

@@ -1,0 +1,59 @@
+-- States that a sound scheduler can be in: what refusals 1 to 3 ask of setup, record and tables, said of a state.
+use Prim.Native.Nat.{_<_, _≤_, suc, ℕ}
+use Rattle.rules.specs.Papers.{Outcome, done, refused}
+use Rattle.schedule.specs.State.{State}
+use Rattle.schedule.specs.declared.Setup.{Setup}
+use Rattle.scheduler.specs.Steps.{Request, insertWrapped}
+use Rattle.store.specs.Layout.{sizeAt, slotsAt}
+use Rattle.store.specs.Pools.{Pool, Slot, free, taken}
+use Rattle.store.specs.declared.Setup.{Setup as StoreSetup}
+use Rattle.table.specs.Order.{ordered}
+use Rattle.time.specs.Time.{inRange, marginInRange}
+use lib.ListN.{getD, length}
+use mathlib.Core.Bool.{true}
+use mathlib.Core.List.{List, [], _∷_}
+use mathlib.Core.Path.{_≡_}
+
+-- a slot of z bytes: it has them all, and a packet in it is no longer
+abbrev pub SlotFits : ℕ → Slot → Type 0
+SlotFits z (free b) = length b ≡ z
+SlotFits z (taken n b) = (length b ≡ z) × (n ≤ z)
+
+abbrev pub SlotsFit : ℕ → List Slot → Type 0
+SlotsFit z [] = Unit {0}
+SlotsFit z (x ∷ xs) = SlotFits z x × SlotsFit z xs
+
+-- subpool k of the setup
+pub record PoolFits (su : StoreSetup) (k : ℕ) (p : Pool) : Type 0 where
+  pub size : p .size ≡ sizeAt su k
+  pub number : length (p .slots) ≡ slotsAt su k
+  pub slots : SlotsFit (p .size) (p .slots)
+
+-- the subpools of the setup from k on, one after another
+abbrev pub PoolsFit : StoreSetup → ℕ → List Pool → Type 0
+PoolsFit su k [] = k ≡ su .pools
+PoolsFit su k (p ∷ ps) = PoolFits su k p × PoolsFit su (suc k) ps
+
+-- the subpools are the setup's; entries in time order and in range, no more than the capacity; clock and margin in range
+pub record Fits (su : Setup) (s : State) : Type 0 where
+  pub pools : PoolsFit (su .store) 0 (s .pools)
+  pub kept : ordered (s .entries) ≡ true
+  pub few : length (s .entries) ≤ su .entries
+  pub clock : inRange (s .clock) ≡ true
+  pub margin : marginInRange (s .margin) ≡ true
+
+-- a refusal, or a state that fits
+abbrev pub Gives : Setup → Outcome State → Type 0
+Gives su (refused p) = Unit {0}
+Gives su (done vs s) = Fits su s
+
+-- Bytes, as every lent slice of bytes has by its type. The stamp of a wrapped insertion is in range because its day is one of bytes.
+abbrev pub Bytes : List ℕ → Type 0
+Bytes s = (i : ℕ) → getD s i 0 < 256
+
+abbrev pub OfBytes : Request → Type 0
+OfBytes q = (p : List ℕ) → q ≡ insertWrapped p → Bytes p
+
+abbrev pub AllOfBytes : List Request → Type 0
+AllOfBytes [] = Unit {0}
+AllOfBytes (q ∷ qs) = OfBytes q × AllOfBytes qs

@@ -1,0 +1,84 @@
+-- Subpools in which each address finds as many packet bytes as its row of the length table still stands for, turn by turn.
+-- Assumes nothing.
+use Prim.Native.Nat.{_≤_, suc, zero, ℕ}
+use Rattle.store.proofs.Rows.{RowSays, SameSlot, row-says, row-slot, slot-row}
+use Rattle.store.specs.Address.{poolOf, slotOf}
+use Rattle.store.specs.Judge.{Sound}
+use Rattle.store.specs.Layout.{allRows, rowOf}
+use Rattle.store.specs.Pools.{Found, Pool, Slot, edit, editAt, editSlot, find, findAt, findSlot, free, held, noPool, noSlot, taken, vacant, wipe}
+use Rattle.store.specs.View.{view}
+use Rattle.turns.proofs.Marking.{eq-or-not, marking-keep, standing-beyond, standing-gone, standing-marked, standing-other, standing-there}
+use Rattle.turns.specs.Marks.{marking, standing}
+use Rattle.turns.specs.Turns.{leave, packetOf}
+use lib.ListN.{length}
+use lib.Seq.{length-take-le}
+use mathlib.Core.Bool.{Bool, false, true}
+use mathlib.Core.List.{List, [], _∷_}
+use mathlib.Core.Logic.{_⊎_, inl, inr, ⊎-elim}
+use mathlib.Core.Path.{_∙_, _≡_, ap, refl, sym}
+use native.Mathlib.Omega.{arith}
+use Rattle.store.specs.declared.Setup.{Setup}
+
+-- what an address finds after one slot was wiped
+slot-else : (f : Slot → Slot) (xs : List Slot) (i j : ℕ) → (i ≡ j → ⊥) → findSlot (editSlot f xs j) i ≡ findSlot xs i
+slot-else f [] i j o = refl
+slot-else f (x ∷ xs) zero zero o = absurd (o refl)
+slot-else f (x ∷ xs) zero (suc j) o = refl
+slot-else f (x ∷ xs) (suc i) zero o = refl
+slot-else f (x ∷ xs) (suc i) (suc j) o = slot-else f xs i j (λ e. o (ap suc e))
+
+find-else : (f : Slot → Slot) (ps : List Pool) (k i m j : ℕ) → ((m ≡ k) × (j ≡ i) → ⊥) → findAt (editAt f ps m j) k i ≡ findAt ps k i
+unfolding findAt editAt
+find-else f [] k i m j o = refl
+find-else f (p ∷ ps) zero i zero j o = slot-else f (p .slots) i j (λ e. o (refl, sym e))
+find-else f (p ∷ ps) zero i (suc m) j o = refl
+find-else f (p ∷ ps) (suc k) i zero j o = refl
+find-else f (p ∷ ps) (suc k) i (suc m) j o = find-else f ps k i m j (λ e. o (ap suc (e .0), e .1))
+
+slot-wiped : (xs : List Slot) (i : ℕ) → packetOf (findSlot (editSlot wipe xs i) i) ≡ []
+slot-wiped [] i = refl
+slot-wiped (free b ∷ xs) zero = refl
+slot-wiped (taken n b ∷ xs) zero = refl
+slot-wiped (x ∷ xs) (suc i) = slot-wiped xs i
+
+find-wiped : (ps : List Pool) (k i : ℕ) → packetOf (findAt (editAt wipe ps k i) k i) ≡ []
+unfolding findAt editAt
+find-wiped [] k i = refl
+find-wiped (p ∷ ps) zero i = slot-wiped (p .slots) i
+find-wiped (p ∷ ps) (suc k) i = find-wiped ps k i
+
+-- subpools in which each address finds as many packet bytes as its row still stands for
+pub record Stands (su : Setup) (le : List ℕ) (ps : List Pool) : Type 0 where
+  pub at : (a : ℕ) → length (packetOf (find ps a)) ≡ standing (allRows su) le (rowOf su a)
+
+module _ (su : Setup) (le : List ℕ) where
+  pub stands-first : (st : List ℕ) → Sound su st le → Stands su le (view su st le)
+  stands-first st ok = record { at = λ a. go a (find (view su st le) a) (row-says su st le ok a) }
+    where
+      go : (a : ℕ) (f : Found) → RowSays su le a f → length (packetOf f) ≡ standing (allRows su) le (rowOf su a)
+      go a noPool e = standing-beyond (allRows su) le (rowOf su a) (omega arith)
+      go a noSlot e = standing-beyond (allRows su) le (rowOf su a) (omega arith)
+      go a vacant h = standing-gone (allRows su) le (rowOf su a) (h .0) (omega (arith, h .1))
+      go a (held n b) h =
+          length-take-le n b (h .2) ∙ sym (h .1) ∙ standing-there (allRows su) le (rowOf su a) (h .0) (omega (arith, h .1, h .3))
+
+  same-slot : (a b : ℕ) → SameSlot a b ⊎ (SameSlot a b → ⊥)
+  same-slot a b =
+      ⊎-elim (λ p. ⊎-elim (λ q. inl (p, q)) (λ q. inr (λ e. q (e .1))) (eq-or-not (slotOf a) (slotOf b))) (λ p. inr (λ e. p (e .0)))
+      (eq-or-not (poolOf a) (poolOf b))
+
+  module _ (ps : List Pool) (a : ℕ) (long : allRows su ≤ length le) (s : Stands su le ps) where
+    wiped-at : (b : ℕ) → SameSlot a b ⊎ (SameSlot a b → ⊥)
+        → length (packetOf (find (edit wipe ps a) b)) ≡ standing (allRows su) (marking true (allRows su) le (rowOf su a)) (rowOf su b)
+    wiped-at b (inl e) =
+        let w : packetOf (find (edit wipe ps a) b) ≡ [] = rw (← (e .0), ← (e .1)) (find-wiped ps (poolOf a) (slotOf a)) in
+        ap length w ∙ rw (← (slot-row su a b e)) (standing-marked (allRows su) le (rowOf su a) long)
+    wiped-at b (inr o) =
+        ap (λ (f : Found). length (packetOf f)) (find-else wipe ps (poolOf b) (slotOf b) (poolOf a) (slotOf a) o)
+        ∙ s .at b
+        ∙ sym (standing-other (allRows su) le (rowOf su a) long (rowOf su b) (λ h. row-slot su a b h o))
+
+    pub stands-next : (del : Bool) → Stands su (marking del (allRows su) le (rowOf su a)) (leave del ps a)
+    unfolding leave
+    stands-next true = record { at = λ b. wiped-at b (same-slot a b) }
+    stands-next false = rw (← (marking-keep (allRows su) le (rowOf su a) false refl)) s
