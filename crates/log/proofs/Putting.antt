@@ -4,24 +4,13 @@ use Prim.Native.Nat.{_+_, _<_, ℕ}
 use Rattle.log.specs.Log.{LogRecord, recordBytes}
 use Rattle.words.proofs.Sets.{length-bytes, sets-then}
 use Rattle.words.specs.Words.{bytesOf}
-use lib.ListN.{drop, getD, length, length-append, set}
+use lib.ListN.{drop, getD, length, set}
 use lib.Seq.{drop-cons, sets}
 use mathlib.Core.List.{List, _++_}
 use mathlib.Core.Path.{_∙_, _≡_, ap}
 use native.Mathlib.Nat.{add-suc}
 use native.Mathlib.Numerals.{add-one}
 use native.Mathlib.Omega.{arith}
-
-pub length-record : (r : LogRecord) → length (recordBytes r) ≡ 17 + length (r .packet)
-unfolding recordBytes
-length-record r =
-    omega (
-      arith,
-      length-append (bytesOf 8 (r .id)) (bytesOf 8 (r .addr) ++ r .packet),
-      length-append (bytesOf 8 (r .addr)) (r .packet),
-      length-bytes 8 (r .id),
-      length-bytes 8 (r .addr),
-    )
 
 pub copy-turn : (l : List ℕ) (at i : ℕ) (s : List ℕ) → i < length s
     → sets (set l (at + i) (getD s i 0)) (at + (i + 1)) (drop (i + 1) s) ≡ sets l (at + i) (drop i s)

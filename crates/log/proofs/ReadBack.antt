@@ -1,14 +1,13 @@
 -- A reader finds each record where its offset says: what was written into a log is read back from it.
 -- Assumes nothing.
 use Prim.Native.Nat.{_*_, _+_, _-_, _<_, _^_, _≤_, suc, ℕ}
-use Rattle.log.proofs.Sizes.{size-log, size-offsets, size-record, size-records, total-more, written}
+use Rattle.log.proofs.Sizes.{size-offsets, size-record, size-records, total-more, written}
 use Rattle.log.specs.Log.{LogRecord, logBytes, offsets, recordBytes, records, recordsAt, total}
 use Rattle.log.specs.Reading.{countOf, endOf, offsetOf, readFrom, readLog, recordIn, totalOf}
 use Rattle.words.proofs.RoundTrip.{number-bytes, number-same}
 use Rattle.words.proofs.Sets.{length-bytes}
 use Rattle.words.specs.Words.{bytesOf, number}
 use borrow.Author.Tests.{le-ltb, lt-ltb}
-use lib.Dec.{ltb}
 use lib.ListN.{List·getD-append, drop, getD, length, length-append, take}
 use lib.Seq.{drop-at, getD-append-add, getD-at, sets, take-at}
 use mathlib.Core.Bool.{Bool, cond}

@@ -1,7 +1,7 @@
 -- The entries that fit do fit: how many they are, and what their log takes.
 -- Assumes nothing.
 use Prim.Native.Nat.{_*_, _+_, _<_, _≤_, suc, zero, ℕ}
-use Rattle.log.proofs.Whole.{length-more}
+use Rattle.log.proofs.Sizes.{size-records}
 use Rattle.log.specs.Log.{LogRecord, mostLogBytes, records, total}
 use Rattle.rules.specs.Tests.{unless}
 use Rattle.store.specs.Pools.{Pool, find}
@@ -20,7 +20,8 @@ use mathlib.Core.List.{List, [], _∷_}
 use mathlib.Core.Path.{_∙_, _≡_, refl}
 use native.Mathlib.Omega.{arith}
 
-either : {A : Type 0} (P : A → Type 0) (b : Bool) (x y : A) → (b ≡ true → P x) → (b ≡ false → P y) → P (unless b y x)
+-- what holds of both outcomes of a test holds of what it picks
+pub either : {A : Type 0} (P : A → Type 0) (b : Bool) (x y : A) → (b ≡ true → P x) → (b ≡ false → P y) → P (unless b y x)
 unfolding unless
 either P true x y f g = f refl
 either P false x y f g = g refl
@@ -48,7 +49,7 @@ module _ (after : List Pool → ℕ → List Pool) (cap : ℕ) where
       (λ q. omega (
         arith,
         fitting-holds on (used + need (find ps (e .addr))) es (after ps (e .addr)) (leb-true _ _ q),
-        length-more r (turns after on (take n es) (after ps (e .addr))),
+        size-records r (turns after on (take n es) (after ps (e .addr))),
       ))
       (λ q. omega arith)
 

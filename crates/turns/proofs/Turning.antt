@@ -1,7 +1,8 @@
 -- The turns one after the other: what holds whenever the loop's test is reached.
 -- Assumes nothing.
 use Prim.Native.Nat.{_*_, _+_, _-_, _<_, _≤_, suc, ℕ}
-use Rattle.log.proofs.Whole.{ended, left, length-more, turn}
+use Rattle.log.proofs.Sizes.{size-records}
+use Rattle.log.proofs.Whole.{ended, left, turn}
 use Rattle.log.specs.Log.{LogRecord, mostLogBytes, offsets, records, total}
 use Rattle.store.proofs.Laid.{leaves-as, leaves-now, leaves-same, leaves-then}
 use Rattle.store.specs.Judge.{Sound as StoreSound}
@@ -121,7 +122,7 @@ module _ (su : Setup) (st₀ le₀ log₀ w : List ℕ) (m : ℕ) (del on : Bool
       rest-is = rw (drop-row m w i h) (turns-more (leave del) (always on) e es (view su st le))
 
       sum-more : at + 17 + length (r .packet) + length (records rs) ≡ total all
-      sum-more = omega (arith, ap (λ (x : List LogRecord). length (records x)) rest-is, length-more r rs, k .sum)
+      sum-more = omega (arith, ap (λ (x : List LogRecord). length (records x)) rest-is, size-records r rs, k .sum)
 
       pub turning-room : (a : ℕ) → a ≡ row w i .addr → Roomy del on (unpack m w) (view su st₀ le₀) log₀
           → (at + 17 + length (packetOf (find (view su st le) a)) ≤ length log)

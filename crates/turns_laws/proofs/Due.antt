@@ -30,7 +30,8 @@ due-is ck t (e ∷ es) o = go (leb (time e) ck) refl (ordered-cons t e es o) (λ
     go : (b : Bool) → leb (time e) ck ≡ b → Head t e es → (orderedFrom (time e) es ≡ true → due ck es ≡ dueCount ck es)
         → due ck (e ∷ es) ≡ unless b (dueCount ck es) (suc (dueCount ck es))
     go true q d ih = below-head (ck + 1) e es (omega (arith, leb-true (time e) ck q)) ∙ ap suc (ih (d .rest))
-    go false q d ih = below-not (ck + 1) e es (omega (arith, leb-false (time e) ck q)) ∙ sym (none-due ck (time e) es (leb-false (time e) ck q) (d .rest))
+    go false q d ih =
+        below-not (ck + 1) e es (omega (arith, leb-false (time e) ck q)) ∙ sym (none-due ck (time e) es (leb-false (time e) ck q) (d .rest))
 
 -- as many fewer are due as were handed out
 pub below-drop : (t m : ℕ) (es : List Entry) → m ≤ below t es → below t (drop m es) ≡ below t es - m

@@ -1,5 +1,4 @@
 -- The tick's laws: Split, Largest, Drains, Follows. The other files help them.
-pub mod Cases
 pub mod Due
 pub mod Split
 pub mod Largest

@@ -16,7 +16,7 @@ use lib.ListN.{getD, length, length-take}
 use mathlib.Core.Bool.{Bool, false, true}
 use mathlib.Core.List.{List, [], _∷_}
 use mathlib.Core.Logic.{⊎-elim}
-use mathlib.Core.Path.{_∙_, _≡_, ap, refl}
+use mathlib.Core.Path.{_≡_, refl}
 use native.Mathlib.Omega.{arith}
 use Rattle.store.specs.declared.Setup.{Setup}
 
@@ -56,13 +56,15 @@ module _ (su : Setup) (st le : List ℕ) (s : Sound su st le) where
       go false e =
           let n : getD le (rowsBefore su k + i) 0 ≡ storeFree → ⊥ = eqb-false _ _ e in
           rw (find-held su st le k i l m n)
-          (⊎-elim (λ q. absurd (n q)) (λ q. omega (arith, length-take (getD le (rowsBefore su k + i) 0) (bytesAt su st k i))) (bounds s .rows k i l m))
+          (⊎-elim (λ q. absurd (n q)) (λ q. omega (arith, length-take (getD le (rowsBefore su k + i) 0) (bytesAt su st k i)))
+          (bounds s .rows k i l m))
 
   pub sound-short : Short (largestSlot su) (view su st le)
   unfolding Short
   sound-short k i = go (ltb k (su .pools)) refl (ltb i (slotsAt su k)) refl
     where
-      go : (b : Bool) → ltb k (su .pools) ≡ b → (d : Bool) → ltb i (slotsAt su k) ≡ d → length (packetOf (findAt (view su st le) k i)) ≤ largestSlot su
+      go : (b : Bool) → ltb k (su .pools) ≡ b → (d : Bool) → ltb i (slotsAt su k) ≡ d
+          → length (packetOf (findAt (view su st le) k i)) ≤ largestSlot su
       go false p d q = rw (find-no-pool su st le k i (ltb-false _ _ p)) (omega arith)
       go true p false q = rw (find-no-slot su st le k i (ltb-true _ _ p) (ltb-false _ _ q)) (omega arith)
       go true p true q =

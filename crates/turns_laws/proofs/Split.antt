@@ -1,15 +1,13 @@
 -- The schedule splits by position: its first m entries are handed out, in order, and leave; the others stay.
 -- Assumes nothing.
-use Prim.Native.Nat.{_+_, _-_, _≤_, min, suc, zero, ℕ}
-use Rattle.log.specs.Log.{LogRecord}
+use Prim.Native.Nat.{_+_, _-_, _≤_, min, suc, ℕ}
 use Rattle.rules.specs.Tests.{allOf, unless}
 use Rattle.store.specs.Pools.{Pool, find}
-use Rattle.table.proofs.Order.{below-head, below-le, below-not}
+use Rattle.table.proofs.Order.{below-head, below-not}
 use Rattle.table.specs.Entries.{Entry, time}
-use Rattle.table.specs.Order.{below}
+use Rattle.turns.proofs.Room.{either, fitting-le}
 use Rattle.turns.specs.Parts.{afterAll, fitting, turns}
-use Rattle.turns.specs.Turns.{Handout, goesOut, handed, handout, need, put, stop}
-use Rattle.turns_laws.proofs.Cases.{unless-cases}
+use Rattle.turns.specs.Turns.{Handout, handed, handout, need, put, stop}
 use Rattle.turns_laws.specs.Draining.{due}
 use borrow.Author.Tests.{leb-false, leb-true, ltb-false, ltb-true}
 use lib.Dec.{leb, ltb}
@@ -32,7 +30,7 @@ unfolding handout turns afterAll
 splits after on ck k used cap [] ps = record { records-are = refl; left-is = refl; pools-are = refl }
 splits after on ck k used cap (e ∷ es) ps =
     let s = splits after on ck (k - 1) (used + need (find ps (e .addr))) cap es (after ps (e .addr)) in
-    unless-cases (λ (h : Handout). Splits after on (e ∷ es) ps h (length (h .records))) _ _ _
+    either (λ (h : Handout). Splits after on (e ∷ es) ps h (length (h .records))) _ _ _
     (λ q. record {
       records-are = ap (handed (on e) e (find ps (e .addr)) ∷_) (s .records-are);
       left-is = s .left-is;
@@ -72,19 +70,12 @@ many after on ck k used cap (e ∷ es) ps =
         last true = ap suc ih
         last false = refl
 
-pub fitting-le : (after : List Pool → ℕ → List Pool) (used cap : ℕ) (es : List Entry) (ps : List Pool) → fitting after used cap es ps ≤ length es
-unfolding fitting
-fitting-le after used cap [] ps = omega arith
-fitting-le after used cap (e ∷ es) ps =
-    let h = fitting-le after (used + need (find ps (e .addr))) cap es (after ps (e .addr)) in
-    unless-cases (λ (n : ℕ). n ≤ suc (length es)) _ _ _ (λ q. omega arith) (λ q. omega arith)
-
 -- at most the limit, and at most the due entries
 pub at-most : (after : List Pool → ℕ → List Pool) (on : Entry → Bool) (ck k used cap : ℕ) (es : List Entry) (ps : List Pool)
     → (length (handout after on ck k used cap es ps .records) ≤ k) × (length (handout after on ck k used cap es ps .records) ≤ due ck es)
 at-most after on ck k used cap es ps =
     let m = many after on ck k used cap es ps in
-    let f = fitting-le after used cap (take (min k (due ck es)) es) ps in
+    let f = fitting-le after cap used (take (min k (due ck es)) es) ps in
     let l = length-take (min k (due ck es)) es in
     (omega arith, omega arith)
 
