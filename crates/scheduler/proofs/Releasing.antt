@@ -9,7 +9,7 @@ use Rattle.schedule.proofs.Promises.{judging-fine}
 use Rattle.schedule.specs.Judge.{Sound, judging}
 use Rattle.schedule.specs.State.{State, stateOf, withEntries, withPools}
 use Rattle.schedule.specs.declared.Setup.{Setup}
-use Rattle.scheduler.proofs.Calls.{either, with-entries, with-pools}
+use Rattle.scheduler.proofs.Calls.{with-entries, with-pools}
 use Rattle.scheduler.proofs.OneOutcome.{one-outcome}
 use Rattle.scheduler.proofs.RefusalKeeps.{call-keeps}
 use Rattle.scheduler.proofs.Standing.{outcome-sound, outcome-state, sound-fits}

@@ -18,6 +18,7 @@ use Rattle.scheduler.proofs.Standing.{laid-sound, laid-state, outcome-s
 use Rattle.scheduler.specs.Fits.{AllOfBytes, Fits, Gives, OfBytes}
 use Rattle.scheduler.specs.Steps.{Request, add, carried, count, delete, deleteById, deleteKeeping, deleteWindow, disable, enable, hasElementAt, insertStored, insertUnwrapped, insertWrapped, lenOfData, looked, modify, read, reset, retrieve, run, setClock, step, tick, ticked}
 use Rattle.store.specs.Judge.{Sound as StoreSound}
+use Rattle.tick.specs.Promise.{left}
 use Rattle.tick.specs.Tick.{Logged, tickIn}
 use Rattle.time.specs.Time.{inRange, marginInRange}
 use Rattle.time.specs.declared.Margin.{Margin}
@@ -52,7 +53,7 @@ step-stays su reset s o f = gives-after su s _ f (reset-gives su s f)
 step-stays su (deleteKeeping id) s o f = gives-after su s _ f (keeping-gives su s f id)
 step-stays su (deleteById id) s o f = gives-after su s _ f (by-id-gives su s f id)
 step-stays su (tick limit del log) s o f =
-    rw (into-after (λ (x : Logged). x .state) (tickIn limit del log s) s) at (gives-after su s _ f (tick-gives su s f limit del log))
+    rw (into-after (λ (x : Logged). x .state) (tickIn limit del log s) s) at (gives-after su s (left (tickIn limit del log s)) f (tick-gives su s f limit del log))
 
 pub run-stays : (su : Setup) (qs : List Request) (s : State) → AllOfBytes qs → Fits su s → Fits su (run su qs s .state)
 unfolding run

@@ -1,6 +1,6 @@
 -- Requests, one at a time: every call of document 01 but the fresh start, dispatched to the calls' own definitions.
 use Prim.Native.Nat.{ℕ}
-use mathlib.Core.Bool.{false, true}
+use mathlib.Core.Bool.{Bool, false, true}
 use mathlib.Core.List.{List, [], _∷_}
 use Rattle.deletions.specs.Deleting.{deleteByIdIn, deleteKeepingIn, deleteWindowIn, resetIn}
 use Rattle.deletions.specs.Windowing.{retrieveIn}
