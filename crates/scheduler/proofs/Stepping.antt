@@ -204,7 +204,7 @@ module _ (su : Setup) (r : Record) (st le ro : List ℕ) (s : Sound su r st le r
       store-step (delete a) (deleteIn (view (su .store) st le) a) refl (public-delete-stays (su .store) st le k a p st′ le′ w)
       (g .answer) (g .lists)
 
--- ys was written through the part that `modify_part` lends at an address that holds a packet; p is what `modify` answered
+-- ys was written through the part that `modify_part` lends at an address that holds a packet
 pub modify-steps : (su : Setup) (r : Record) (st le ro : List ℕ) → Sound su r st le ro → (a n : ℕ) (raw ys : List ℕ)
     → find (view (su .store) st le) a ≡ held n raw → length ys ≡ n
     → StepsAs su r st le ro (modify a ys) (no 0 (n ∷ [])) r (put (startOf (su .store) a) n ys st) le ro
@@ -239,6 +239,14 @@ module _ (su : Setup) (r : Record) (st le ro : List ℕ) (s : Sound su r st le r
       → p ≡ step su (lenOfData a) (stateOf su r st le ro) .answer .paper
   unfolding step looked stateOf
   len-tells a e = rw (store-judging-fine (su .store) st le (λ ps. lenIn ps a) (facts s .store)) at e
+
+  -- `modify` itself, which answers and writes nothing
+  pub modify-tells : (a : ℕ) (d : List ℕ) → p ≡ says (storeJudging (su .store) st le (λ ps. packetIn ps a))
+      → p ≡ step su (modify a d) (stateOf su r st le ro) .answer .paper
+  unfolding step carried stateOf
+  modify-tells a d e =
+      let v = rw (store-judging-fine (su .store) st le (λ ps. packetIn ps a) (facts s .store)) at e in
+      v ∙ sym (into-says _ (packetIn (view (su .store) st le) a))
 
   pub read-tells : (a : ℕ) (buf buf′ : List ℕ) → Reads (storeJudging (su .store) st le (λ ps. readIn ps a buf)) buf p buf′
       → (p ≡ step su (read a buf) (stateOf su r st le ro) .answer .paper) × (buf′ ≡ step su (read a buf) (stateOf su r st le ro) .answer .buffer)
