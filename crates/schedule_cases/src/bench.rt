@@ -1,0 +1,76 @@
+// What a call is given beside the lent tables, and one call: its answer, and what it changed.
+use crate::calls;
+use crate::show;
+use record::Record;
+use scheduler::Setup;
+use time::Margin;
+use time::UnixTime;
+ghost use Prim.Native.Nat.{_≤_};
+
+// The setup, the record, and how much of the store, the lengths and the rows is lent.
+pub struct Bench {
+    pub setup: Setup,
+    pub rec: Record,
+    pub room: usize,
+    pub lens: usize,
+    pub rows: usize,
+}
+
+pub fn none() -> Bench {
+    Bench {
+        setup: Setup {
+            store: store::Setup {
+                pools: 0,
+                sizes: [0, 0, 0, 0, 0, 0, 0, 0],
+                slots: [0, 0, 0, 0, 0, 0, 0, 0],
+                spill: false,
+            },
+            entries: 0,
+        },
+        rec: Record {
+            count: 0,
+            clock: UnixTime { secs: 0, nanos: 0 },
+            margin: Margin { secs: 0, nanos: 0 },
+            enabled: false,
+        },
+        room: 0,
+        lens: 0,
+        rows: 0,
+    }
+}
+
+fn least(a: usize, most: usize) -> usize
+    ensures { λ r. ⌜ r ≤ most ⌝ }
+{
+    if a <= most { a } else { most }
+}
+
+pub fn with_record(b: Bench, rec: Record) -> Bench {
+    let setup = b.setup;
+    Bench {
+        setup: setup,
+        rec: rec,
+        room: b.room,
+        lens: b.lens,
+        rows: b.rows,
+    }
+}
+
+// Does a call on what is lent, writes its answer, and gives back the record.
+pub fn call(b: Bench, text: &[u8], store: &mut [u8], lens: &mut [u16], rows: &mut [u64]) -> Bench {
+    let s = least(b.room, store.len());
+    let l = least(b.lens, lens.len());
+    let r = least(b.rows, rows.len());
+    let setup = b.setup;
+    let rec = b.rec;
+    show::say(b" => ");
+    let next = calls::run(
+        setup,
+        rec,
+        text,
+        &mut store[0..s],
+        &mut lens[0..l],
+        &mut rows[0..r],
+    );
+    with_record(b, next)
+}

@@ -1,0 +1,64 @@
+// The calls that start a schedule, count it and change the record alone; the others are in `insertions` and `deletions`.
+use crate::insertions;
+use crate::line;
+use crate::show;
+use record::Changed;
+use record::Record;
+use scheduler::Setup;
+
+pub fn run(
+    setup: Setup,
+    rec: Record,
+    text: &[u8],
+    store: &mut [u8],
+    lens: &mut [u16],
+    rows: &mut [u64],
+) -> Record {
+    if line::is(text, b"start") {
+        return start(setup, rec, text, store, lens, rows);
+    }
+    if line::is(text, b"count") {
+        return count(setup, rec, store, lens, rows);
+    }
+    if line::is(text, b"clock") {
+        return change(rec.clocked(line::time(text, 1)));
+    }
+    if line::is(text, b"enable") {
+        return change(rec.marked(true));
+    }
+    if line::is(text, b"disable") {
+        return change(rec.marked(false));
+    }
+    insertions::run(setup, rec, text, store, lens, rows)
+}
+
+pub fn change(c: Changed) -> Record {
+    let a = c.answer;
+    show::done(a);
+    c.next
+}
+
+fn start(
+    setup: Setup,
+    rec: Record,
+    text: &[u8],
+    store: &mut [u8],
+    lens: &mut [u16],
+    rows: &mut [u64],
+) -> Record {
+    let c = scheduler::fresh_start(
+        setup,
+        rec,
+        store,
+        lens,
+        rows,
+        line::time(text, 1),
+        line::margin(text, 3),
+    );
+    change(c)
+}
+
+fn count(setup: Setup, rec: Record, store: &[u8], lens: &[u16], rows: &[u64]) -> Record {
+    show::counted(scheduler::count(setup, rec, store, lens, rows));
+    rec
+}

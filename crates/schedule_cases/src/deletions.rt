@@ -1,0 +1,118 @@
+// Retrieval by window, and the deletions.
+use crate::line;
+use crate::show;
+use record::Record;
+use scheduler::Cleared;
+use scheduler::Setup;
+use scheduler::Window;
+
+pub fn run(
+    setup: Setup,
+    rec: Record,
+    text: &[u8],
+    store: &mut [u8],
+    lens: &mut [u16],
+    rows: &mut [u64],
+) -> Record {
+    if line::is(text, b"retrieve") {
+        return retrieve(setup, rec, text, store, lens, rows);
+    }
+    if line::is(text, b"delete") {
+        return delete(setup, rec, text, store, lens, rows);
+    }
+    if line::is(text, b"reset") {
+        return reset(setup, rec, store, lens, rows);
+    }
+    if line::is(text, b"take") {
+        return take(setup, rec, text, store, lens, rows);
+    }
+    if line::is(text, b"free") {
+        return free(setup, rec, text, store, lens, rows);
+    }
+    rec
+}
+
+// all; fromto and two times; from or to and a time.
+fn window(text: &[u8]) -> Window {
+    if line::has(text, 1, b"fromto") {
+        return Window::FromTo(line::time(text, 2), line::time(text, 4));
+    }
+    if line::has(text, 1, b"from") {
+        return Window::From(line::time(text, 2));
+    }
+    if line::has(text, 1, b"to") {
+        return Window::To(line::time(text, 2));
+    }
+    Window::All
+}
+
+fn retrieve(
+    setup: Setup,
+    rec: Record,
+    text: &[u8],
+    store: &[u8],
+    lens: &[u16],
+    rows: &[u64],
+) -> Record {
+    let w = window(text);
+    show::retrieved(scheduler::retrieve_by_time_filter(setup, rec, store, lens, rows, w));
+    rec
+}
+
+fn cleared(c: Cleared) -> Record {
+    let a = c.answer;
+    show::cleared(a);
+    c.next
+}
+
+fn delete(
+    setup: Setup,
+    rec: Record,
+    text: &[u8],
+    store: &mut [u8],
+    lens: &mut [u16],
+    rows: &mut [u64],
+) -> Record {
+    let w = window(text);
+    cleared(scheduler::delete_by_time_filter(setup, rec, store, lens, rows, w))
+}
+
+fn reset(
+    setup: Setup,
+    rec: Record,
+    store: &mut [u8],
+    lens: &mut [u16],
+    rows: &mut [u64],
+) -> Record {
+    cleared(scheduler::reset(setup, rec, store, lens, rows))
+}
+
+fn take(
+    setup: Setup,
+    rec: Record,
+    text: &[u8],
+    store: &[u8],
+    lens: &[u16],
+    rows: &mut [u64],
+) -> Record {
+    let id = line::number(text, 1);
+    let t = scheduler::delete_by_request_id(setup, rec, store, lens, rows, id);
+    let a = t.answer;
+    show::taken(a);
+    t.next
+}
+
+fn free(
+    setup: Setup,
+    rec: Record,
+    text: &[u8],
+    store: &mut [u8],
+    lens: &mut [u16],
+    rows: &mut [u64],
+) -> Record {
+    let id = line::number(text, 1);
+    let f = scheduler::delete_by_request_id_and_from_pool(setup, rec, store, lens, rows, id);
+    let a = f.answer;
+    show::freed(a);
+    f.next
+}

@@ -1,0 +1,170 @@
+// Answers as words: document 01's number, the name, the values.
+use record::Done;
+use record::ScheduleRefusal;
+use scheduler::ClearAnswer;
+use scheduler::Counted;
+use scheduler::FreeAnswer;
+use scheduler::InsertAnswer;
+use scheduler::Last;
+use scheduler::Retrieved;
+use scheduler::TakeAnswer;
+use store::StoreIdError;
+use store::StoreRefusal;
+use time::Margin;
+use time::UnixTime;
+
+pub fn say(text: &[u8]) {
+    io::write_all(libc::STDOUT_FILENO, text);
+}
+
+pub fn number(text: &[u8], n: u64) {
+    say(text);
+    io::print_decimal(libc::STDOUT_FILENO, n);
+}
+
+fn size(n: i64) -> u64 {
+    if n < 0 {
+        return (-1 - n) as u64 + 1;
+    }
+    n as u64
+}
+
+// A time, and after it a margin: seconds and nanoseconds each.
+pub fn time(text: &[u8], t: UnixTime) {
+    say(text);
+    if t.secs < 0 {
+        say(b"-");
+    }
+    number(b"", size(t.secs));
+    number(b" ", t.nanos as u64);
+}
+
+pub fn margin(text: &[u8], m: Margin) {
+    number(text, m.secs);
+    number(b" ", m.nanos as u64);
+}
+
+fn id_error(e: StoreIdError) {
+    match e {
+        StoreIdError::InvalidSubpool(k) => number(b"16 InvalidSubpool ", k as u64),
+        StoreIdError::InvalidPacketIdx(i) => number(b"17 InvalidPacketIdx ", i as u64),
+    }
+}
+
+pub fn store_refusal(e: StoreRefusal) {
+    match e {
+        StoreRefusal::BadSetup => say(b"1 BadSetup"),
+        StoreRefusal::BadBuffers => say(b"2 BadBuffers"),
+        StoreRefusal::StateDamaged => say(b"3 StateDamaged"),
+        StoreRefusal::DataTooLarge(n) => number(b"11 DataTooLarge ", n as u64),
+        StoreRefusal::StoreFull(k) => number(b"12 StoreFull ", k as u64),
+        StoreRefusal::InvalidStoreId(b) => id_error(b),
+        StoreRefusal::DataDoesNotExist(a) => number(b"18 DataDoesNotExist ", a),
+        StoreRefusal::BufferTooSmall { found, expected } => {
+            number(b"19 BufferTooSmall ", found as u64);
+            number(b" ", expected as u64);
+        }
+    }
+}
+
+fn refusal(e: ScheduleRefusal) {
+    match e {
+        ScheduleRefusal::Store(s) => store_refusal(s),
+        ScheduleRefusal::BadTime => say(b"4 BadTime"),
+        ScheduleRefusal::WrongService(n) => number(b"5 WrongService ", n as u64),
+        ScheduleRefusal::WrongSubservice(n) => number(b"6 WrongSubservice ", n as u64),
+        ScheduleRefusal::TcDataEmpty => say(b"7 TcDataEmpty"),
+        ScheduleRefusal::BadTimestamp => say(b"8 BadTimestamp"),
+        ScheduleRefusal::TcUnreadable => say(b"9 TcUnreadable"),
+        ScheduleRefusal::NestedScheduledTc => say(b"10 NestedScheduledTc"),
+        ScheduleRefusal::ReleaseTimeInTimeMargin {
+            clock,
+            margin: m,
+            release,
+        } => {
+            time(b"13 ReleaseTimeInTimeMargin clock ", clock);
+            margin(b" margin ", m);
+            time(b" release ", release);
+        }
+        ScheduleRefusal::ScheduleFull => say(b"14 ScheduleFull"),
+        ScheduleRefusal::ReversedWindow => say(b"15 ReversedWindow"),
+        ScheduleRefusal::LogTooSmall(n) => number(b"20 LogTooSmall ", n as u64),
+    }
+}
+
+pub fn done(a: Done) {
+    match a {
+        Done::Ok => say(b"0 Ok"),
+        Done::Refused(e) => refusal(e),
+    }
+}
+
+pub fn counted(a: Counted) {
+    match a {
+        Counted::Count(n) => number(b"0 Count ", n as u64),
+        Counted::Refused(e) => refusal(e),
+    }
+}
+
+// The packet's address, then its request ID.
+pub fn inserted(a: InsertAnswer) {
+    match a {
+        InsertAnswer::Inserted(i) => {
+            number(b"0 Inserted at ", i.addr);
+            number(b" id ", i.request_id);
+        }
+        InsertAnswer::Refused(e) => refusal(e),
+    }
+}
+
+pub fn retrieved(a: Retrieved) {
+    match a {
+        Retrieved::Rows(p) => {
+            number(b"0 Rows from ", p.first as u64);
+            number(b" number ", p.number as u64);
+        }
+        Retrieved::Refused(e) => refusal(e),
+    }
+}
+
+fn last(l: Last) {
+    match l {
+        Last::None => say(b" none"),
+        Last::Missing(e) => {
+            say(b" last ");
+            store_refusal(e);
+        }
+    }
+}
+
+pub fn cleared(a: ClearAnswer) {
+    match a {
+        ClearAnswer::Done(t) => {
+            number(b"0 Done deleted ", t.deleted as u64);
+            number(b" missing ", t.missing as u64);
+            let l = t.last;
+            last(l);
+        }
+        ClearAnswer::Refused(e) => refusal(e),
+    }
+}
+
+pub fn taken(a: TakeAnswer) {
+    match a {
+        TakeAnswer::NoMatch => say(b"0 NoMatch"),
+        TakeAnswer::Address(n) => number(b"0 Address ", n),
+        TakeAnswer::Refused(e) => refusal(e),
+    }
+}
+
+pub fn freed(a: FreeAnswer) {
+    match a {
+        FreeAnswer::NoMatch => say(b"0 NoMatch"),
+        FreeAnswer::Deleted => say(b"0 Deleted"),
+        FreeAnswer::Missing(e) => {
+            say(b"0 Missing ");
+            store_refusal(e);
+        }
+        FreeAnswer::Refused(e) => refusal(e),
+    }
+}
