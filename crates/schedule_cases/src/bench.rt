@@ -2,7 +2,7 @@
 use crate::calls;
 use crate::show;
 use record::Record;
-use scheduler::Setup;
+use schedule::Setup;
 use time::Margin;
 use time::UnixTime;
 ghost use Prim.Native.Nat.{_≤_};

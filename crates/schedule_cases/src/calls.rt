@@ -1,10 +1,10 @@
-// The calls that start a schedule, count it and change the record alone; the others are in `insertions` and `deletions`.
-use crate::insertions;
+// The calls that start a schedule, count it and change the record alone; the others are in `inserting` and `deleting`.
+use crate::inserting;
 use crate::line;
 use crate::show;
 use record::Changed;
 use record::Record;
-use scheduler::Setup;
+use schedule::Setup;
 
 pub fn run(
     setup: Setup,
@@ -29,7 +29,7 @@ pub fn run(
     if line::is(text, b"disable") {
         return change(rec.marked(false));
     }
-    insertions::run(setup, rec, text, store, lens, rows)
+    inserting::run(setup, rec, text, store, lens, rows)
 }
 
 pub fn change(c: Changed) -> Record {
@@ -46,7 +46,7 @@ fn start(
     lens: &mut [u16],
     rows: &mut [u64],
 ) -> Record {
-    let c = scheduler::fresh_start(
+    let c = schedule::fresh_start(
         setup,
         rec,
         store,
@@ -59,6 +59,6 @@ fn start(
 }
 
 fn count(setup: Setup, rec: Record, store: &[u8], lens: &[u16], rows: &[u64]) -> Record {
-    show::counted(scheduler::count(setup, rec, store, lens, rows));
+    show::counted(schedule::count(setup, rec, store, lens, rows));
     rec
 }

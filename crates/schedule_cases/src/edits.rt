@@ -4,7 +4,7 @@ use crate::bench::Bench;
 use crate::line;
 use crate::state;
 use record::Record;
-use scheduler::Setup;
+use schedule::Setup;
 
 pub fn edit(b: Bench, text: &[u8], store: &mut [u8], lens: &mut [u16], rows: &mut [u64]) -> Bench {
     if line::is(text, b"Show") {

@@ -1,9 +1,9 @@
 // The scheduler's calls at every boundary: each line of the input is done, and written out with what came back and what it changed.
 mod bench;
 mod calls;
-mod deletions;
+mod deleting;
 mod edits;
-mod insertions;
+mod inserting;
 mod line;
 mod show;
 mod state;

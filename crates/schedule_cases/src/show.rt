@@ -1,13 +1,13 @@
 // Answers as words: document 01's number, the name, the values.
+use deletions::ClearAnswer;
+use deletions::FreeAnswer;
+use deletions::Last;
+use deletions::Retrieved;
+use deletions::TakeAnswer;
+use insertions::InsertAnswer;
 use record::Done;
 use record::ScheduleRefusal;
-use scheduler::ClearAnswer;
-use scheduler::Counted;
-use scheduler::FreeAnswer;
-use scheduler::InsertAnswer;
-use scheduler::Last;
-use scheduler::Retrieved;
-use scheduler::TakeAnswer;
+use schedule::Counted;
 use store::StoreIdError;
 use store::StoreRefusal;
 use time::Margin;
@@ -129,7 +129,7 @@ pub fn retrieved(a: Retrieved) {
 
 fn last(l: Last) {
     match l {
-        Last::None => say(b" none"),
+        Last::None => say(b" last none"),
         Last::Missing(e) => {
             say(b" last ");
             store_refusal(e);

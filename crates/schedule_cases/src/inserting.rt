@@ -1,11 +1,11 @@
 // The three insertions.
 use crate::calls;
-use crate::deletions;
+use crate::deleting;
 use crate::line;
 use crate::show;
+use insertions::Inserted;
 use record::Record;
-use scheduler::Inserted;
-use scheduler::Setup;
+use schedule::Setup;
 
 pub fn run(
     setup: Setup,
@@ -24,7 +24,7 @@ pub fn run(
     if line::is(text, b"stored") {
         return stored(setup, rec, text, store, lens, rows);
     }
-    deletions::run(setup, rec, text, store, lens, rows)
+    deleting::run(setup, rec, text, store, lens, rows)
 }
 
 fn inserted(i: Inserted) -> Record {
@@ -43,7 +43,7 @@ fn wrapped(
 ) -> Record {
     let mut outer = [0u8; 64];
     let n = line::bytes(text, 1, &mut outer);
-    let i = scheduler::insert_wrapped_tc(setup, rec, store, lens, rows, &outer[..n]);
+    let i = insertions::insert_wrapped_tc(setup, rec, store, lens, rows, &outer[..n]);
     inserted(i)
 }
 
@@ -58,7 +58,7 @@ fn unwrapped(
     let mut tc = [0u8; 64];
     let n = line::bytes(text, 3, &mut tc);
     let t = line::time(text, 1);
-    let i = scheduler::insert_unwrapped_tc(setup, rec, store, lens, rows, t, &tc[..n]);
+    let i = insertions::insert_unwrapped_tc(setup, rec, store, lens, rows, t, &tc[..n]);
     inserted(i)
 }
 
@@ -73,6 +73,6 @@ fn stored(
     let t = line::time(text, 1);
     let id = line::number(text, 3);
     let addr = line::number(text, 4);
-    let c = scheduler::insert_unwrapped_and_stored_tc(setup, rec, store, lens, rows, t, id, addr);
+    let c = insertions::insert_unwrapped_and_stored_tc(setup, rec, store, lens, rows, t, id, addr);
     calls::change(c)
 }

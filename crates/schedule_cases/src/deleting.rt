@@ -1,10 +1,10 @@
 // Retrieval by window, and the deletions.
 use crate::line;
 use crate::show;
+use deletions::Cleared;
+use deletions::Window;
 use record::Record;
-use scheduler::Cleared;
-use scheduler::Setup;
-use scheduler::Window;
+use schedule::Setup;
 
 pub fn run(
     setup: Setup,
@@ -55,7 +55,7 @@ fn retrieve(
     rows: &[u64],
 ) -> Record {
     let w = window(text);
-    show::retrieved(scheduler::retrieve_by_time_filter(setup, rec, store, lens, rows, w));
+    show::retrieved(deletions::retrieve_by_time_filter(setup, rec, store, lens, rows, w));
     rec
 }
 
@@ -74,7 +74,7 @@ fn delete(
     rows: &mut [u64],
 ) -> Record {
     let w = window(text);
-    cleared(scheduler::delete_by_time_filter(setup, rec, store, lens, rows, w))
+    cleared(deletions::delete_by_time_filter(setup, rec, store, lens, rows, w))
 }
 
 fn reset(
@@ -84,7 +84,7 @@ fn reset(
     lens: &mut [u16],
     rows: &mut [u64],
 ) -> Record {
-    cleared(scheduler::reset(setup, rec, store, lens, rows))
+    cleared(deletions::reset(setup, rec, store, lens, rows))
 }
 
 fn take(
@@ -96,7 +96,7 @@ fn take(
     rows: &mut [u64],
 ) -> Record {
     let id = line::number(text, 1);
-    let t = scheduler::delete_by_request_id(setup, rec, store, lens, rows, id);
+    let t = deletions::delete_by_request_id(setup, rec, store, lens, rows, id);
     let a = t.answer;
     show::taken(a);
     t.next
@@ -111,7 +111,7 @@ fn free(
     rows: &mut [u64],
 ) -> Record {
     let id = line::number(text, 1);
-    let f = scheduler::delete_by_request_id_and_from_pool(setup, rec, store, lens, rows, id);
+    let f = deletions::delete_by_request_id_and_from_pool(setup, rec, store, lens, rows, id);
     let a = f.answer;
     show::freed(a);
     f.next
