@@ -1,10 +1,9 @@
 // What a call is given beside the lent tables, and one call: its answer, and what it changed.
 use crate::calls;
+use crate::edits;
 use crate::show;
 use record::Record;
 use schedule::Setup;
-use time::Margin;
-use time::UnixTime;
 ghost use Prim.Native.Nat.{_≤_};
 
 // The setup, the record, and how much of the store, the lengths and the rows is lent.
@@ -16,23 +15,13 @@ pub struct Bench {
     pub rows: usize,
 }
 
+// Nothing is set up, and nothing lent.
 pub fn none() -> Bench {
+    let setup = edits::setup(b"");
+    let rec = edits::record(b"");
     Bench {
-        setup: Setup {
-            store: store::Setup {
-                pools: 0,
-                sizes: [0, 0, 0, 0, 0, 0, 0, 0],
-                slots: [0, 0, 0, 0, 0, 0, 0, 0],
-                spill: false,
-            },
-            entries: 0,
-        },
-        rec: Record {
-            count: 0,
-            clock: UnixTime { secs: 0, nanos: 0 },
-            margin: Margin { secs: 0, nanos: 0 },
-            enabled: false,
-        },
+        setup: setup,
+        rec: rec,
         room: 0,
         lens: 0,
         rows: 0,
@@ -57,7 +46,14 @@ pub fn with_record(b: Bench, rec: Record) -> Bench {
 }
 
 // Does a call on what is lent, writes its answer, and gives back the record.
-pub fn call(b: Bench, text: &[u8], store: &mut [u8], lens: &mut [u16], rows: &mut [u64]) -> Bench {
+pub fn call(
+    b: Bench,
+    k: usize,
+    text: &[u8],
+    store: &mut [u8],
+    lens: &mut [u16],
+    rows: &mut [u64],
+) -> Bench {
     let s = least(b.room, store.len());
     let l = least(b.lens, lens.len());
     let r = least(b.rows, rows.len());
@@ -67,6 +63,7 @@ pub fn call(b: Bench, text: &[u8], store: &mut [u8], lens: &mut [u16], rows: &mu
     let next = calls::run(
         setup,
         rec,
+        k,
         text,
         &mut store[0..s],
         &mut lens[0..l],

@@ -9,27 +9,28 @@ use schedule::Setup;
 pub fn run(
     setup: Setup,
     rec: Record,
+    k: usize,
     text: &[u8],
     store: &mut [u8],
     lens: &mut [u16],
     rows: &mut [u64],
 ) -> Record {
-    if line::is(text, b"start") {
+    if k == line::START {
         return start(setup, rec, text, store, lens, rows);
     }
-    if line::is(text, b"count") {
+    if k == line::COUNT {
         return count(setup, rec, store, lens, rows);
     }
-    if line::is(text, b"clock") {
+    if k == line::CLOCK {
         return change(rec.clocked(line::time(text, 1)));
     }
-    if line::is(text, b"enable") {
+    if k == line::ENABLE {
         return change(rec.marked(true));
     }
-    if line::is(text, b"disable") {
+    if k == line::DISABLE {
         return change(rec.marked(false));
     }
-    inserting::run(setup, rec, text, store, lens, rows)
+    inserting::run(setup, rec, k, text, store, lens, rows)
 }
 
 pub fn change(c: Changed) -> Record {

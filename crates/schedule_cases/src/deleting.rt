@@ -9,24 +9,25 @@ use schedule::Setup;
 pub fn run(
     setup: Setup,
     rec: Record,
+    k: usize,
     text: &[u8],
     store: &mut [u8],
     lens: &mut [u16],
     rows: &mut [u64],
 ) -> Record {
-    if line::is(text, b"retrieve") {
+    if k == line::RETRIEVE {
         return retrieve(setup, rec, text, store, lens, rows);
     }
-    if line::is(text, b"delete") {
+    if k == line::DELETE {
         return delete(setup, rec, text, store, lens, rows);
     }
-    if line::is(text, b"reset") {
+    if k == line::RESET {
         return reset(setup, rec, store, lens, rows);
     }
-    if line::is(text, b"take") {
+    if k == line::TAKE {
         return take(setup, rec, text, store, lens, rows);
     }
-    if line::is(text, b"free") {
+    if k == line::FREE {
         return free(setup, rec, text, store, lens, rows);
     }
     rec
@@ -34,13 +35,14 @@ pub fn run(
 
 // all; fromto and two times; from or to and a time.
 fn window(text: &[u8]) -> Window {
-    if line::has(text, 1, b"fromto") {
+    let k = line::which(text, 1, b"fromto from to all");
+    if k == 0 {
         return Window::FromTo(line::time(text, 2), line::time(text, 4));
     }
-    if line::has(text, 1, b"from") {
+    if k == 1 {
         return Window::From(line::time(text, 2));
     }
-    if line::has(text, 1, b"to") {
+    if k == 2 {
         return Window::To(line::time(text, 2));
     }
     Window::All

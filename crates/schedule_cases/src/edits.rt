@@ -6,37 +6,45 @@ use crate::state;
 use record::Record;
 use schedule::Setup;
 
-pub fn edit(b: Bench, text: &[u8], store: &mut [u8], lens: &mut [u16], rows: &mut [u64]) -> Bench {
-    if line::is(text, b"Show") {
+pub fn edit(
+    b: Bench,
+    k: usize,
+    text: &[u8],
+    store: &mut [u8],
+    lens: &mut [u16],
+    rows: &mut [u64],
+) -> Bench {
+    if k == line::SHOW {
         show(b, text, store, lens, rows);
         return b;
     }
-    if line::is(text, b"Vanish") {
+    if k == line::VANISH {
         vanish(b, text, store, lens);
         return b;
     }
-    if line::is(text, b"Length") {
+    if k == line::LENGTH {
         set_length(text, lens);
         return b;
     }
-    if line::is(text, b"Word") {
+    if k == line::WORD {
         set_word(text, rows);
         return b;
     }
-    given(b, text)
+    given(b, k, text)
 }
 
 fn show(b: Bench, text: &[u8], store: &[u8], lens: &[u16], rows: &[u64]) {
-    if line::has(text, 1, b"record") {
+    let k = line::which(text, 1, b"record store lengths rows");
+    if k == 0 {
         state::record(b.rec);
     }
-    if line::has(text, 1, b"store") {
+    if k == 1 {
         state::bytes(store);
     }
-    if line::has(text, 1, b"lengths") {
+    if k == 2 {
         state::lens(lens);
     }
-    if line::has(text, 1, b"rows") {
+    if k == 3 {
         state::rows(rows);
     }
 }
@@ -62,10 +70,10 @@ fn set_word(text: &[u8], rows: &mut [u64]) {
     }
 }
 
-fn given(b: Bench, text: &[u8]) -> Bench {
+fn given(b: Bench, k: usize, text: &[u8]) -> Bench {
     let old = b.setup;
     let rec = b.rec;
-    if line::is(text, b"Setup") {
+    if k == line::SETUP {
         return Bench {
             setup: setup(text),
             rec: rec,
@@ -74,7 +82,7 @@ fn given(b: Bench, text: &[u8]) -> Bench {
             rows: b.rows,
         };
     }
-    if line::is(text, b"Lend") {
+    if k == line::LEND {
         return Bench {
             setup: old,
             rec: rec,
@@ -83,14 +91,14 @@ fn given(b: Bench, text: &[u8]) -> Bench {
             rows: line::index(text, 3),
         };
     }
-    if line::is(text, b"Record") {
+    if k == line::RECORD {
         return bench::with_record(b, record(text));
     }
     b
 }
 
 // Subpools, size and slots of the first, size and slots of the second, entries, and whether it spills.
-fn setup(text: &[u8]) -> Setup {
+pub fn setup(text: &[u8]) -> Setup {
     let sizes = [line::short(text, 2), line::short(text, 4), 0, 0, 0, 0, 0, 0];
     let slots = [line::short(text, 3), line::short(text, 5), 0, 0, 0, 0, 0, 0];
     let s = store::Setup {
@@ -106,7 +114,7 @@ fn setup(text: &[u8]) -> Setup {
 }
 
 // The count, the clock, the margin, and whether it is enabled.
-fn record(text: &[u8]) -> Record {
+pub fn record(text: &[u8]) -> Record {
     let clock = line::time(text, 2);
     let margin = line::margin(text, 4);
     Record {

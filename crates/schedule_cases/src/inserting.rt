@@ -10,21 +10,22 @@ use schedule::Setup;
 pub fn run(
     setup: Setup,
     rec: Record,
+    k: usize,
     text: &[u8],
     store: &mut [u8],
     lens: &mut [u16],
     rows: &mut [u64],
 ) -> Record {
-    if line::is(text, b"wrapped") {
+    if k == line::WRAPPED {
         return wrapped(setup, rec, text, store, lens, rows);
     }
-    if line::is(text, b"unwrapped") {
+    if k == line::UNWRAPPED {
         return unwrapped(setup, rec, text, store, lens, rows);
     }
-    if line::is(text, b"stored") {
+    if k == line::STORED {
         return stored(setup, rec, text, store, lens, rows);
     }
-    deleting::run(setup, rec, text, store, lens, rows)
+    deleting::run(setup, rec, k, text, store, lens, rows)
 }
 
 fn inserted(i: Inserted) -> Record {

@@ -6,14 +6,65 @@ ghost use Prim.Native.Nat.{_<_, _≤_};
 ghost use lib.ListN.{length};
 ghost use Rattle.io.specs.Counts.{Counts};
 
-// Where the line that begins at a place ends.
-pub fn end(text: &[u8], at: usize) -> usize
+// What a line does, by its first word. The first thirteen are calls of the scheduler; a line of no such word is a remark.
+pub fn code(text: &[u8]) -> usize {
+    which(
+        text,
+        0,
+        b"start count clock enable disable unwrapped wrapped stored retrieve delete reset take free Setup Lend Record Length Word Vanish Show",
+    )
+}
+
+pub const START: usize = 0;
+
+pub const COUNT: usize = 1;
+
+pub const CLOCK: usize = 2;
+
+pub const ENABLE: usize = 3;
+
+pub const DISABLE: usize = 4;
+
+pub const UNWRAPPED: usize = 5;
+
+pub const WRAPPED: usize = 6;
+
+pub const STORED: usize = 7;
+
+pub const RETRIEVE: usize = 8;
+
+pub const DELETE: usize = 9;
+
+pub const RESET: usize = 10;
+
+pub const TAKE: usize = 11;
+
+pub const FREE: usize = 12;
+
+pub const CALLS: usize = 13;
+
+pub const SETUP: usize = 13;
+
+pub const LEND: usize = 14;
+
+pub const RECORD: usize = 15;
+
+pub const LENGTH: usize = 16;
+
+pub const WORD: usize = 17;
+
+pub const VANISH: usize = 18;
+
+pub const SHOW: usize = 19;
+
+// Where the line or the word that begins at a place ends: at the mark behind it, or with the text.
+pub fn end(text: &[u8], at: usize, mark: u8) -> usize
     requires { ⌜ at ≤ length (now text) ⌝ }
     ensures { λ r. ⌜ (at ≤ r) × (r ≤ length (now (text .entry))) ⌝ }
 {
     let mut i = at;
     while i < text.len() {
-        if text[i] == b'\n' {
+        if text[i] == mark {
             return i;
         }
         i += 1;
@@ -21,22 +72,32 @@ pub fn end(text: &[u8], at: usize) -> usize
     i
 }
 
-// Calls are written small; what else a line does begins with a capital, and a remark with another mark.
-pub fn is_call(text: &[u8]) -> bool {
-    if text.len() < 1 {
-        return false;
+// Where word k begins, counted from 0; the text's end where there is none.
+pub fn word(text: &[u8], k: usize) -> usize
+    ensures { λ r. ⌜ r ≤ length (now (text .entry)) ⌝ }
+{
+    let mut at: usize = 0;
+    let mut i: usize = 0;
+    while i < k {
+        at = end(text, at, b' ');
+        if at >= text.len() {
+            return at;
+        }
+        at += 1;
+        i += 1;
     }
-    text[0] >= b'a'
+    at
 }
 
-// Whether a line begins with a word.
-pub fn is(text: &[u8], name: &[u8]) -> bool {
-    if text.len() < name.len() {
+// Whether two texts begin with the same word.
+fn alike(a: &[u8], b: &[u8]) -> bool {
+    let n = end(a, 0, b' ');
+    if n != end(b, 0, b' ') {
         return false;
     }
     let mut i: usize = 0;
-    while i < name.len() {
-        if text[i] != name[i] {
+    while i < n {
+        if a[i] != b[i] {
             return false;
         }
         i += 1;
@@ -44,36 +105,23 @@ pub fn is(text: &[u8], name: &[u8]) -> bool {
     true
 }
 
-// Where word k begins, counted from 0; the line's end where there is none.
-fn word(text: &[u8], k: usize) -> usize
-    ensures { λ r. ⌜ r ≤ length (now (text .entry)) ⌝ }
-{
-    let mut left = k;
-    let mut i: usize = 0;
-    while i < text.len() {
-        if left == 0 {
-            return i;
+// Which of the names word k is, counted from 0; their number or more where it is none.
+pub fn which(text: &[u8], k: usize, names: &[u8]) -> usize {
+    let from = word(text, k);
+    let mut at: usize = 0;
+    let mut n: usize = 0;
+    while at < names.len() {
+        if alike(&text[from..], &names[at..]) {
+            return n;
         }
-        left = left_after(left, text[i]);
-        i += 1;
+        at = end(names, at, b' ');
+        n += 1;
+        if at >= names.len() {
+            return n;
+        }
+        at += 1;
     }
-    i
-}
-
-// Whether word k begins so.
-pub fn has(text: &[u8], k: usize, name: &[u8]) -> bool {
-    let at = word(text, k);
-    is(&text[at..], name)
-}
-
-fn left_after(left: usize, b: u8) -> usize {
-    if b != b' ' {
-        return left;
-    }
-    if left == 0 {
-        return 0;
-    }
-    left - 1
+    n
 }
 
 fn with_digit(v: u64, b: u8) -> u64 {
@@ -86,19 +134,7 @@ fn with_digit(v: u64, b: u8) -> u64 {
     if v > 1844674407370955160 {
         return v;
     }
-    v * 10 + digit(b)
-}
-
-fn digit(b: u8) -> u64
-    ensures { λ r. ⌜ r < 10 ⌝ }
-{
-    if b < b'0' {
-        return 0;
-    }
-    if b > b'9' {
-        return 0;
-    }
-    (b - b'0') as u64
+    v * 10 + (b - b'0') as u64
 }
 
 // The number whose digits begin at a place.
@@ -132,14 +168,18 @@ fn nanos(text: &[u8], k: usize) -> u32 {
 }
 
 fn signed(text: &[u8], k: usize) -> i64 {
-    with_sign(has(text, k, b"-"), number(text, k))
+    let at = word(text, k);
+    if at >= text.len() {
+        return 0;
+    }
+    with_sign(text[at], digits(text, at))
 }
 
-fn with_sign(minus: bool, v: u64) -> i64 {
+fn with_sign(first: u8, v: u64) -> i64 {
     if v > 4611686018427387904 {
         return 0;
     }
-    if minus {
+    if first == b'-' {
         return 0 - (v as i64);
     }
     v as i64

@@ -24,7 +24,7 @@ fn all(text: &[u8]) {
     let mut b = bench::none();
     let mut at: usize = 0;
     while at < text.len() {
-        let end = line::end(text, at);
+        let end = line::end(text, at, b'\n');
         if end >= text.len() {
             return;
         }
@@ -33,9 +33,10 @@ fn all(text: &[u8]) {
         let l = lens;
         let r = rows;
         let old = b.rec;
-        b = one(b, &text[at..end], &mut store, &mut lens, &mut rows);
+        let k = line::code(&text[at..end]);
+        b = one(b, k, &text[at..end], &mut store, &mut lens, &mut rows);
         let new = b.rec;
-        if line::is_call(&text[at..end]) {
+        if k < line::CALLS {
             state::changes(old, new, &s, &store, &l, &lens, &r, &rows);
         }
         show::say(b"\n");
@@ -43,11 +44,17 @@ fn all(text: &[u8]) {
     }
 }
 
-// Calls of the scheduler are written small.
-fn one(b: Bench, text: &[u8], store: &mut [u8], lens: &mut [u16], rows: &mut [u64]) -> Bench {
+fn one(
+    b: Bench,
+    k: usize,
+    text: &[u8],
+    store: &mut [u8],
+    lens: &mut [u16],
+    rows: &mut [u64],
+) -> Bench {
     show::say(text);
-    if line::is_call(text) {
-        return bench::call(b, text, store, lens, rows);
+    if k < line::CALLS {
+        return bench::call(b, k, text, store, lens, rows);
     }
-    edits::edit(b, text, store, lens, rows)
+    edits::edit(b, k, text, store, lens, rows)
 }

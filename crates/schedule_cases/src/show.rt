@@ -1,4 +1,5 @@
 // Answers as words: document 01's number, the name, the values.
+use crate::line;
 use deletions::ClearAnswer;
 use deletions::FreeAnswer;
 use deletions::Last;
@@ -44,24 +45,52 @@ pub fn margin(text: &[u8], m: Margin) {
     number(b" ", m.nanos as u64);
 }
 
+// A refusal's number and name.
+fn name(no: usize) {
+    let names =
+        b"- BadSetup BadBuffers StateDamaged BadTime WrongService WrongSubservice TcDataEmpty BadTimestamp TcUnreadable NestedScheduledTc DataTooLarge StoreFull ReleaseTimeInTimeMargin ScheduleFull ReversedWindow InvalidSubpool InvalidPacketIdx DataDoesNotExist BufferTooSmall LogTooSmall";
+    number(b"", no as u64);
+    say(b" ");
+    word(names, no);
+}
+
+fn word(text: &[u8], k: usize) {
+    let at = line::word(text, k);
+    let end = line::end(text, at, b' ');
+    say(&text[at..end]);
+}
+
+// The same and a value.
+fn valued(no: usize, n: u64) {
+    name(no);
+    number(b" ", n);
+}
+
+fn late(clock: UnixTime, m: Margin, release: UnixTime) {
+    name(13);
+    time(b" clock ", clock);
+    margin(b" margin ", m);
+    time(b" release ", release);
+}
+
 fn id_error(e: StoreIdError) {
     match e {
-        StoreIdError::InvalidSubpool(k) => number(b"16 InvalidSubpool ", k as u64),
-        StoreIdError::InvalidPacketIdx(i) => number(b"17 InvalidPacketIdx ", i as u64),
+        StoreIdError::InvalidSubpool(k) => valued(16, k as u64),
+        StoreIdError::InvalidPacketIdx(i) => valued(17, i as u64),
     }
 }
 
-pub fn store_refusal(e: StoreRefusal) {
+fn store_refusal(e: StoreRefusal) {
     match e {
-        StoreRefusal::BadSetup => say(b"1 BadSetup"),
-        StoreRefusal::BadBuffers => say(b"2 BadBuffers"),
-        StoreRefusal::StateDamaged => say(b"3 StateDamaged"),
-        StoreRefusal::DataTooLarge(n) => number(b"11 DataTooLarge ", n as u64),
-        StoreRefusal::StoreFull(k) => number(b"12 StoreFull ", k as u64),
+        StoreRefusal::BadSetup => name(1),
+        StoreRefusal::BadBuffers => name(2),
+        StoreRefusal::StateDamaged => name(3),
+        StoreRefusal::DataTooLarge(n) => valued(11, n as u64),
+        StoreRefusal::StoreFull(k) => valued(12, k as u64),
         StoreRefusal::InvalidStoreId(b) => id_error(b),
-        StoreRefusal::DataDoesNotExist(a) => number(b"18 DataDoesNotExist ", a),
+        StoreRefusal::DataDoesNotExist(a) => valued(18, a),
         StoreRefusal::BufferTooSmall { found, expected } => {
-            number(b"19 BufferTooSmall ", found as u64);
+            valued(19, found as u64);
             number(b" ", expected as u64);
         }
     }
@@ -70,25 +99,21 @@ pub fn store_refusal(e: StoreRefusal) {
 fn refusal(e: ScheduleRefusal) {
     match e {
         ScheduleRefusal::Store(s) => store_refusal(s),
-        ScheduleRefusal::BadTime => say(b"4 BadTime"),
-        ScheduleRefusal::WrongService(n) => number(b"5 WrongService ", n as u64),
-        ScheduleRefusal::WrongSubservice(n) => number(b"6 WrongSubservice ", n as u64),
-        ScheduleRefusal::TcDataEmpty => say(b"7 TcDataEmpty"),
-        ScheduleRefusal::BadTimestamp => say(b"8 BadTimestamp"),
-        ScheduleRefusal::TcUnreadable => say(b"9 TcUnreadable"),
-        ScheduleRefusal::NestedScheduledTc => say(b"10 NestedScheduledTc"),
+        ScheduleRefusal::BadTime => name(4),
+        ScheduleRefusal::WrongService(n) => valued(5, n as u64),
+        ScheduleRefusal::WrongSubservice(n) => valued(6, n as u64),
+        ScheduleRefusal::TcDataEmpty => name(7),
+        ScheduleRefusal::BadTimestamp => name(8),
+        ScheduleRefusal::TcUnreadable => name(9),
+        ScheduleRefusal::NestedScheduledTc => name(10),
         ScheduleRefusal::ReleaseTimeInTimeMargin {
             clock,
             margin: m,
             release,
-        } => {
-            time(b"13 ReleaseTimeInTimeMargin clock ", clock);
-            margin(b" margin ", m);
-            time(b" release ", release);
-        }
-        ScheduleRefusal::ScheduleFull => say(b"14 ScheduleFull"),
-        ScheduleRefusal::ReversedWindow => say(b"15 ReversedWindow"),
-        ScheduleRefusal::LogTooSmall(n) => number(b"20 LogTooSmall ", n as u64),
+        } => late(clock, m, release),
+        ScheduleRefusal::ScheduleFull => name(14),
+        ScheduleRefusal::ReversedWindow => name(15),
+        ScheduleRefusal::LogTooSmall(n) => valued(20, n as u64),
     }
 }
 

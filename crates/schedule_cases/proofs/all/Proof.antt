@@ -7,10 +7,10 @@ use Rattle.schedule_cases.proofs.all.Statement.{statement}
 use Rattle.schedule_cases.proofs.all.Tie as tie
 
 abbrev Inv-loop : tie.InvT-loop
-Inv-loop text store₀ lens₀ rows₀ b₀ at₀ t14 store lens rows b at = (at ≤ length text) × (length store ≡ 120) × (length lens ≡ 7) × (length rows ≡ 20)
+Inv-loop text store₀ lens₀ rows₀ b₀ at₀ t15 store lens rows b at = (at ≤ length text) × (length store ≡ 120) × (length lens ≡ 7) × (length rows ≡ 20)
 
 abbrev μ-loop : tie.MeasureT-loop
-μ-loop text store₀ lens₀ rows₀ b₀ at₀ t14 store lens rows b at = length text - at
+μ-loop text store₀ lens₀ rows₀ b₀ at₀ t15 store lens rows b at = length text - at
 
 pub all-spec : {M : Type 1} → statement M
 all-spec =
@@ -26,10 +26,10 @@ all-spec =
     (λ c. search needs)
     (λ c. search needs)
     (λ c. search needs)
-    (λ c. search needs)
-    (λ c. search needs)
-    (λ c. search needs)
     (λ c κs. search needs)
+    (λ c. search needs)
+    (λ c. search needs)
+    (λ c. search needs)
     (λ c. search needs)
     (λ c. search needs)
     (λ c. search needs)

@@ -6,10 +6,10 @@ use Rattle.schedule_cases.proofs.line.end.Statement.{statement}
 use Rattle.schedule_cases.proofs.line.end.Tie as tie
 
 abbrev Inv-loop : tie.InvT-loop
-Inv-loop text at i₀ i = (at ≤ i) × (i ≤ length text)
+Inv-loop text at mark i₀ i = (at ≤ i) × (i ≤ length text)
 
 abbrev μ-loop : tie.MeasureT-loop
-μ-loop text at i₀ i = length text - i
+μ-loop text at mark i₀ i = length text - i
 
 pub end-spec : {M : Type 1} → statement M
 end-spec =

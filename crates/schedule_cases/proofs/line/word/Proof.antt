@@ -6,10 +6,10 @@ use Rattle.schedule_cases.proofs.line.word.Statement.{statement}
 use Rattle.schedule_cases.proofs.line.word.Tie as tie
 
 abbrev Inv-loop : tie.InvT-loop
-Inv-loop text k left₀ i₀ left i = i ≤ length text
+Inv-loop text k at₀ i₀ at i = (at ≤ length text) × (i ≤ k)
 
 abbrev μ-loop : tie.MeasureT-loop
-μ-loop text k left₀ i₀ left i = length text - i
+μ-loop text k at₀ i₀ at i = k - i
 
 pub word-spec : {M : Type 1} → statement M
 word-spec =
@@ -18,9 +18,9 @@ word-spec =
     Inv-loop
     μ-loop
     (λ c. search needs)
-    (λ c. search needs)
-    (λ c. search needs)
     (λ c κs. search needs)
+    (λ c. search needs)
+    (λ c. search needs)
     (λ c. search needs)
     (λ c. search needs)
     (λ c. search needs)

@@ -1,22 +1,23 @@
--- `schedule_cases::line::is` meets its contract.
+-- `schedule_cases::line::alike` meets its contract.
 use Prim.Native.Nat.{_-_, _≤_}
-use lib.ListN.{length}
 use borrow.Author.Needs.{needs}
-use Rattle.schedule_cases.proofs.line.is.Statement.{statement}
-use Rattle.schedule_cases.proofs.line.is.Tie as tie
+use Rattle.schedule_cases.proofs.line.alike.Statement.{statement}
+use Rattle.schedule_cases.proofs.line.alike.Tie as tie
 
 abbrev Inv-loop : tie.InvT-loop
-Inv-loop text name i₀ i = i ≤ length name
+Inv-loop a b n i₀ i = i ≤ n
 
 abbrev μ-loop : tie.MeasureT-loop
-μ-loop text name i₀ i = length name - i
+μ-loop a b n i₀ i = n - i
 
-pub is-spec : {M : Type 1} → statement M
-is-spec =
+pub alike-spec : {M : Type 1} → statement M
+alike-spec =
     tie.close
     (tie.spec
     Inv-loop
     μ-loop
+    (λ c κs. search needs)
+    (λ c κs. search needs)
     (λ c. search needs)
     (λ c. search needs)
     (λ c. search needs)
