@@ -6,15 +6,7 @@ ghost use Prim.Native.Nat.{_<_, _≤_};
 ghost use lib.ListN.{length};
 ghost use Rattle.io.specs.Counts.{Counts};
 
-// What a line does, by its first word. The first thirteen are calls of the scheduler; a line of no such word is a remark.
-pub fn code(text: &[u8]) -> usize {
-    which(
-        text,
-        0,
-        b"start count clock enable disable unwrapped wrapped stored retrieve delete reset take free Setup Lend Record Length Word Vanish Show",
-    )
-}
-
+// What a line does, by its first word: calls of the scheduler first. A line of no such word is a remark.
 pub const START: usize = 0;
 
 pub const COUNT: usize = 1;
@@ -56,6 +48,24 @@ pub const WORD: usize = 17;
 pub const VANISH: usize = 18;
 
 pub const SHOW: usize = 19;
+
+pub const REMARK: usize = 20;
+
+pub fn code(text: &[u8]) -> usize {
+    let call = which(
+        text,
+        0,
+        b"start count clock enable disable unwrapped wrapped stored retrieve delete reset take free",
+    );
+    if call < CALLS {
+        return call;
+    }
+    let other = which(text, 0, b"Setup Lend Record Length Word Vanish Show");
+    if other < REMARK - CALLS {
+        return CALLS + other;
+    }
+    REMARK
+}
 
 // Where the line or the word that begins at a place ends: at the mark behind it, or with the text.
 pub fn end(text: &[u8], at: usize, mark: u8) -> usize
@@ -125,16 +135,10 @@ pub fn which(text: &[u8], k: usize, names: &[u8]) -> usize {
 }
 
 fn with_digit(v: u64, b: u8) -> u64 {
-    if b < b'0' {
-        return v;
-    }
-    if b > b'9' {
-        return v;
-    }
     if v > 1844674407370955160 {
         return v;
     }
-    v * 10 + (b - b'0') as u64
+    v * 10 + digit(b) as u64
 }
 
 // The number whose digits begin at a place.
@@ -204,7 +208,8 @@ pub fn margin(text: &[u8], k: usize) -> Margin
     }
 }
 
-fn nibble(b: u8) -> u8
+// The value of a digit, also of the six from A on; 0 for another byte.
+fn digit(b: u8) -> u8
     ensures { λ r. ⌜ r < 16 ⌝ }
 {
     if b < b'0' {
@@ -223,7 +228,7 @@ fn nibble(b: u8) -> u8
 }
 
 fn byte(a: u8, b: u8) -> u8 {
-    nibble(a) * 16 + nibble(b)
+    digit(a) * 16 + digit(b)
 }
 
 // The bytes that are written from word k on, two digits each, in as many words as there are, and as many bytes as there is room for.

@@ -47,11 +47,19 @@ pub fn margin(text: &[u8], m: Margin) {
 
 // A refusal's number and name.
 fn name(no: usize) {
-    let names =
-        b"- BadSetup BadBuffers StateDamaged BadTime WrongService WrongSubservice TcDataEmpty BadTimestamp TcUnreadable NestedScheduledTc DataTooLarge StoreFull ReleaseTimeInTimeMargin ScheduleFull ReversedWindow InvalidSubpool InvalidPacketIdx DataDoesNotExist BufferTooSmall LogTooSmall";
     number(b"", no as u64);
     say(b" ");
-    word(names, no);
+    if no < 11 {
+        word(
+            b"- BadSetup BadBuffers StateDamaged BadTime WrongService WrongSubservice TcDataEmpty BadTimestamp TcUnreadable NestedScheduledTc",
+            no,
+        );
+    } else {
+        word(
+            b"DataTooLarge StoreFull - ScheduleFull ReversedWindow InvalidSubpool InvalidPacketIdx DataDoesNotExist BufferTooSmall LogTooSmall",
+            no - 11,
+        );
+    }
 }
 
 fn word(text: &[u8], k: usize) {
@@ -67,8 +75,7 @@ fn valued(no: usize, n: u64) {
 }
 
 fn late(clock: UnixTime, m: Margin, release: UnixTime) {
-    name(13);
-    time(b" clock ", clock);
+    time(b"13 ReleaseTimeInTimeMargin clock ", clock);
     margin(b" margin ", m);
     time(b" release ", release);
 }

@@ -40,22 +40,10 @@ pub fn same_record(a: Record, b: Record) -> bool {
     let t = b.clock;
     let m = a.margin;
     let n = b.margin;
-    if a.count != b.count {
-        return false;
-    }
-    if s.secs != t.secs {
-        return false;
-    }
-    if s.nanos != t.nanos {
-        return false;
-    }
-    if m.secs != n.secs {
-        return false;
-    }
-    if m.nanos != n.nanos {
-        return false;
-    }
-    if a.enabled { b.enabled } else { !b.enabled }
+    let clocks = all(s.secs == t.secs, s.nanos == t.nanos);
+    let margins = all(m.secs == n.secs, m.nanos == n.nanos);
+    let others = all(a.count == b.count, a.enabled == b.enabled);
+    all(all(clocks, margins), others)
 }
 
 pub fn record(r: Record) {

@@ -7,7 +7,8 @@ use Rattle.schedule_cases.proofs.all.Statement.{statement}
 use Rattle.schedule_cases.proofs.all.Tie as tie
 
 abbrev Inv-loop : tie.InvT-loop
-Inv-loop text store₀ lens₀ rows₀ b₀ at₀ t15 store lens rows b at = (at ≤ length text) × (length store ≡ 120) × (length lens ≡ 7) × (length rows ≡ 20)
+Inv-loop text store₀ lens₀ rows₀ b₀ at₀ t15 store lens rows b at =
+    (at ≤ length text) × (length store ≡ 120) × (length lens ≡ 7) × (length rows ≡ 20)
 
 abbrev μ-loop : tie.MeasureT-loop
 μ-loop text store₀ lens₀ rows₀ b₀ at₀ t15 store lens rows b at = length text - at
