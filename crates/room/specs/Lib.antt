@@ -1,0 +1,2 @@
+-- Demand 3: room never changes an answer.
+pub mod Room

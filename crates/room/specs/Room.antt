@@ -1,0 +1,2 @@
+-- Demand 3.
+use Prim.Native.Nat.{ℕ}
