@@ -3,8 +3,7 @@ use Prim.Native.Nat.{ℕ}
 use Rattle.room.specs.Room.{struck}
 use Rattle.rules.specs.Papers.{Outcome, Paper, done, into, no, refused, says}
 use Rattle.rules.specs.Tests.{unless}
-use lib.Dec.{eqb}
-use mathlib.Core.Bool.{Bool, _||_, false, true}
+use mathlib.Core.Bool.{Bool, false, true}
 use mathlib.Core.List.{List}
 use mathlib.Core.Path.{_≡_, refl}
 use native.Mathlib.Omega.{arith}

@@ -2,7 +2,7 @@
 use Prim.Native.Nat.{_<_, _≤_, suc, zero, ℕ}
 use Rattle.room.proofs.Grow.{NamedAt, Slotted, grow, shape}
 use Rattle.store.specs.Address.{addressOf, poolOf, slotOf}
-use Rattle.store.specs.Pools.{Choice, Pool, Slot, allTaken, choose, free, into, lowest, next, pick, shift, spillInto, taken, tooLarge}
+use Rattle.store.specs.Pools.{Choice, Pool, Slot, allTaken, choose, free, into, lowest, next, pick, shift, taken, tooLarge}
 use lib.Dec.{leb}
 use lib.ListN.{length}
 use mathlib.Core.Bool.{Bool, false, true}

@@ -1,5 +1,5 @@
 -- The deletions on the smaller scheduler and on the larger.
-use Prim.Native.Nat.{_<_, ℕ}
+use Prim.Native.Nat.{ℕ}
 use Rattle.deletions.specs.Deleting.{Swept, clearIn, deleteByIdIn, deleteKeepingIn, deleteWindowIn, disabled, freed, resetIn, sweep, swept, takeIn, unswept}
 use Rattle.deletions.specs.Windowing.{windowOf, windowed}
 use Rattle.deletions.specs.declared.Window.{Window}
@@ -17,7 +17,6 @@ use Rattle.table.specs.Edits.{without}
 use Rattle.table.specs.Entries.{Entry}
 use Rattle.table.specs.Match.{none, victim}
 use Rattle.table.specs.Windows.{inWindow, outside, within}
-use Rattle.table.specs.declared.TimeWindow.{TimeWindow}
 use borrow.Author.Tests.{ltb-true}
 use lib.Dec.{ltb}
 use lib.ListN.{getD, length}

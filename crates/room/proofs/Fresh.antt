@@ -9,14 +9,14 @@ use Rattle.schedule.specs.declared.Setup.{Setup}
 use Rattle.store.specs.Address.{poolOf, slotOf}
 use Rattle.store.specs.Calls.{freshPool, freshPools}
 use Rattle.store.specs.Judge.{poolOkAt, setupOk as storeSetupOk}
-use Rattle.store.specs.Layout.{sizeAt, slotsAt}
+use Rattle.store.specs.Layout.{slotsAt}
 use Rattle.store.specs.Pools.{Pool, free}
 use Rattle.store.specs.View.{each}
 use borrow.Author.Tests.{leb-true}
 use lib.ListN.{length, length-replicate, replicate, replicate-append-replicate}
 use mathlib.Core.Bool.{true}
-use mathlib.Core.List.{List, [], _++_, _∷_}
-use mathlib.Core.Path.{_∙_, _≡_, ap, refl, subst, sym}
+use mathlib.Core.List.{List, _++_}
+use mathlib.Core.Path.{_≡_, ap, refl}
 use native.Mathlib.Nat.{not-suc-le-zero}
 use native.Mathlib.Omega.{arith}
 

@@ -10,3 +10,4 @@ pub mod Deleting
 pub mod Steps
 pub mod Fresh
 pub mod Demand
+pub mod Spilling

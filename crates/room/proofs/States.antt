@@ -9,7 +9,7 @@ use Rattle.schedule.specs.State.{State, withPools}
 use Rattle.scheduler.specs.Steps.{withRecord}
 use Rattle.store.specs.Pools.{Pool}
 use mathlib.Core.List.{List}
-use mathlib.Core.Path.{_≡_, refl}
+use mathlib.Core.Path.{_≡_}
 
 -- the smaller's: each entry's address names one of its slots
 pub record Fit (ns : List ℕ) (s : State) : Type 0 where

@@ -4,14 +4,13 @@ use Rattle.room.proofs.Alike.{Alike, Left, answers, refuses, strikes}
 use Rattle.room.proofs.Choosing.{Inside, Narrow, choose-grow, choose-in, isFull, slotted}
 use Rattle.room.proofs.Grow.{Slotted, edit-grow, editAt-grow, find-grow, grow, shape, shape-edit, shape-editAt}
 use Rattle.room.specs.Room.{struck}
-use Rattle.rules.specs.Papers.{Outcome, done, into, no, refused}
-use Rattle.store.specs.Address.{addressOf, poolOf, slotOf}
+use Rattle.rules.specs.Papers.{done, into}
 use Rattle.store.specs.Calls.{addIn, deleteIn, hasIn, ifHeld, ifNamed, lenIn, packetIn, place, readIn}
-use Rattle.store.specs.Pools.{Choice, Found, Pool, allTaken, choose, edit, editAt, fill, find, held, noPool, noSlot, tooLarge, vacant, wipe}
+use Rattle.store.specs.Pools.{Choice, Found, Pool, allTaken, edit, fill, find, held, noPool, noSlot, tooLarge, vacant, wipe}
 use Rattle.store.specs.Pools as P
 use lib.ListN.{getD, length}
-use mathlib.Core.Bool.{Bool, false, true}
-use mathlib.Core.List.{List, [], _∷_}
+use mathlib.Core.Bool.{Bool, false}
+use mathlib.Core.List.{List, []}
 use mathlib.Core.Path.{_∙_, _≡_, refl}
 
 -- what an addition leaves has the same shape, and its answer is the address of a slot of the smaller

@@ -3,8 +3,8 @@
 -- StoreFull or ScheduleFull: the second, given the rest and the same buffers, gives the same answers and writes the same bytes.
 use Prim.Native.Nat.{_<_, _≤_, ℕ}
 use lib.Dec.{eqb}
-use mathlib.Core.Bool.{Bool, _||_, cond, false, true}
-use mathlib.Core.List.{List, [], _++_, _∷_}
+use mathlib.Core.Bool.{Bool, _||_, cond, true}
+use mathlib.Core.List.{List, [], _∷_}
 use mathlib.Core.Path.{_≡_}
 use Rattle.rules.specs.Papers.{Paper}
 use Rattle.schedule.specs.Judge.{setupOk}
@@ -22,7 +22,11 @@ pub record Roomier (su lu : Setup) : Type 0 where
   pub same-sizes : (k : ℕ) → k < su .store .pools → sizeAt (lu .store) k ≡ sizeAt (su .store) k
   pub more-slots : (k : ℕ) → k < su .store .pools → slotsAt (su .store) k ≤ slotsAt (lu .store) k
   pub more-entries : su .entries ≤ lu .entries
-  pub no-spilling : (su .store .spill ≡ false) × (lu .store .spill ≡ false)
+
+-- spilling is on in both, or off in both
+pub record Spills (b : Bool) (su lu : Setup) : Type 0 where
+  pub first : su .store .spill ≡ b
+  pub second : lu .store .spill ≡ b
 
 -- the addresses in a request. An insertion by bytes, like an addition, has none: it answers the one that it chose
 unfoldable pub addresses : Request → List ℕ
@@ -71,11 +75,12 @@ strike (a ∷ given) (x ∷ xs) = cond (struck (a .paper)) (strike given xs) (x 
 abbrev pub answersOf : Setup → UnixTime → Margin → List Request → List Answer
 answersOf su clock margin qs = run su qs (freshState su clock margin) .answers
 
--- the demand. Neither fresh start is refused; of that, it needs no more than that the smaller setup is none of refusal 1
-unfoldable pub RoomNeverChangesAnAnswer : Type 0
-RoomNeverChangesAnAnswer =
+-- the demand, over a rule for spilling. Neither fresh start is refused; of that, it needs no more than that the first setup is none of refusal 1
+unfoldable pub RoomNeverChangesAnAnswer : Bool → Type 0
+RoomNeverChangesAnAnswer spilling =
     (su lu : Setup) (clock : UnixTime) (margin : Margin) (qs : List Request) →
     setupOk su ≡ true →
     Roomier su lu →
+    Spills spilling su lu →
     EveryNamed su qs →
     answersOf lu clock margin (strike (answersOf su clock margin qs) qs) ≡ strike (answersOf su clock margin qs) (answersOf su clock margin qs)
