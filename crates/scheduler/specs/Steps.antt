@@ -2,19 +2,19 @@
 use Prim.Native.Nat.{ℕ}
 use mathlib.Core.Bool.{Bool, false, true}
 use mathlib.Core.List.{List, [], _∷_}
+use Rattle.deletions.specs.Deleting.{deleteByIdIn, deleteKeepingIn, deleteWindowIn, resetIn}
+use Rattle.deletions.specs.Windowing.{retrieveIn}
+use Rattle.deletions.specs.declared.Window.{Window}
+use Rattle.insertions.specs.Inserting.{insertStoredIn, insertUnwrappedIn, insertWrappedIn}
 use Rattle.record.specs.Record.{clockIn, markIn}
 use Rattle.record.specs.declared.Record.{Record}
 use Rattle.rules.specs.Papers.{Outcome, Paper, after, into, says}
+use Rattle.schedule.specs.Counting.{countIn}
+use Rattle.schedule.specs.State.{State, recordOf, withPools}
+use Rattle.schedule.specs.declared.Setup.{Setup}
 use Rattle.store.specs.Calls.{addIn, deleteIn, hasIn, lenIn, packetIn, readIn}
 use Rattle.store.specs.Pools.{Pool, edit, rewrite}
 use Rattle.time.specs.declared.UnixTime.{UnixTime}
-use Rattle.deletions.specs.Deleting.{deleteByIdIn, deleteKeepingIn, deleteWindowIn, resetIn}
-use Rattle.insertions.specs.Inserting.{insertStoredIn, insertUnwrappedIn, insertWrappedIn}
-use Rattle.schedule.specs.State.{State, recordOf, withPools}
-use Rattle.schedule.specs.Counting.{countIn}
-use Rattle.deletions.specs.Windowing.{retrieveIn}
-use Rattle.schedule.specs.declared.Setup.{Setup}
-use Rattle.deletions.specs.declared.Window.{Window}
 
 pub data Request : Type 0 where
   -- the store's own calls; `modify` with what is written through it, and `read` with the buffer that is lent
