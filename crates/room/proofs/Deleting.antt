@@ -73,7 +73,8 @@ module _ (ns ks : List ℕ) where
       (filter-slots ns (within (windowOf w)) (s .entries) (f .named)) (filter-slots ns (λ e. not (within (windowOf w) e)) (s .entries) (f .named))))
 
   -- by request ID
-  takes : (id : ℕ) (found : ℕ → State → Outcome State) → ((a : ℕ) (s : State) → Slotted ns a → Fit ns s → Same ns ks (found a s) (found a (grown ks s)))
+  takes : (id : ℕ) (found : ℕ → State → Outcome State)
+      → ((a : ℕ) (s : State) → Slotted ns a → Fit ns s → Same ns ks (found a s) (found a (grown ks s)))
       → (s : State) → Fit ns s → Same ns ks (takeIn id found s) (takeIn id found (grown ks s))
   unfolding takeIn unless
   takes id found h s f = go (ltb (victim id (s .entries)) (length (s .entries))) refl
@@ -94,7 +95,8 @@ module _ (ns ks : List ℕ) where
   unfolding deleteKeepingIn
   keeping id s f = takes id (λ a t. done (1 ∷ a ∷ []) t) (λ a t n g. answers _ _ _ t g) s f
 
-  freed-too : (s : State) (o : Outcome (List Pool)) → Fit ns s → Left (λ vs ps. shape ps ≡ ns) o → Same ns ks (freed s o) (freed (grown ks s) (into (grow ks) o))
+  freed-too : (s : State) (o : Outcome (List Pool)) → Fit ns s → Left (λ vs ps. shape ps ≡ ns) o
+      → Same ns ks (freed s o) (freed (grown ks s) (into (grow ks) o))
   unfolding freed into
   freed-too s (refused p) f l = answers _ _ _ s f
   freed-too s (done vs ps) f l = answers _ _ _ (withPools ps s) (record { shaped = l; named = f .named })

@@ -53,7 +53,8 @@ module _ (su lu : Setup) (more : su .entries ≤ lu .entries) (ns ks : List ℕ)
     unfolding activity
     command t tc (Unreadable x) = refuses _ _ _
     command t tc (Packet h) =
-        by-test _ _ _ _ _ _ _ (refuses _ _ _) (stored-too t _ s fits _ _ (adds ns ks (s .pools) (fits .shaped) narrow few tc _ _ (off .first) (off .second)))
+        by-test _ _ _ _ _ _ _ (refuses _ _ _)
+        (stored-too t _ s fits _ _ (adds ns ks (s .pools) (fits .shaped) narrow few tc _ _ (off .first) (off .second)))
 
     from-stamp : (d : List ℕ) (x : Stamp) → Same ns ks (stamped su d s x) (stamped lu d (grown ks s) x)
     unfolding stamped
@@ -75,6 +76,7 @@ module _ (su lu : Setup) (more : su .entries ≤ lu .entries) (ns ks : List ℕ)
     unfolding insertUnwrappedIn timed
     unwrapped t p = by-test _ _ _ _ _ _ _ (refuses _ _ _) (command t p (readOf 2 p))
 
-  pub stored : (t : UnixTime) (id a : ℕ) (s : State) → Fit ns s → Slotted ns a → Same ns ks (insertStoredIn su t id a s) (insertStoredIn lu t id a (grown ks s))
+  pub stored : (t : UnixTime) (id a : ℕ) (s : State) → Fit ns s → Slotted ns a
+      → Same ns ks (insertStoredIn su t id a s) (insertStoredIn lu t id a (grown ks s))
   unfolding insertStoredIn timed
   stored t id a s f n = by-test _ _ _ _ _ _ _ (refuses _ _ _) (enters t id a _ s f n)

@@ -28,13 +28,17 @@ pub large-refuses : lastAnswer (slots 2) (line 1 65536) ≡ no 12 (2 ∷ [])
 unfolding run step carried into says after freshPools each addIn place choose editAt deleteIn ifHeld ifNamed findAt over
 large-refuses = refl
 
--- a request list for both: the second packet of 16 bytes spills in the smaller alone
+slots-ok : setupOk (slots 1) ≡ true
+unfolding setupOk storeSetupOk allOf allBelow lastSize bytesBefore
+slots-ok = refl
+
+-- one list of requests for both: the second packet of 16 bytes spills in the smaller alone
 pub spilling-changes-answers : RoomNeverChangesAnAnswer true → ⊥
-unfolding RoomNeverChangesAnAnswer run step carried into says after freshPools each addIn place choose editAt over strike struck addresses setupOk storeSetupOk allOf allBelow lastSize bytesBefore
+unfolding RoomNeverChangesAnAnswer run step carried into says after freshPools each addIn place choose editAt over strike struck addresses
 spilling-changes-answers demand =
     let qs = add (replicate 16 0) ∷ add (replicate 16 0) ∷ [] in
     let e =
-    demand (slots 1) (slots 2) (record { secs = pos 0; nanos = 0 }) (record { secs = 0; nanos = 0 }) qs refl
+    demand (slots 1) (slots 2) (record { secs = pos 0; nanos = 0 }) (record { secs = 0; nanos = 0 }) qs slots-ok
     (record { same-pools = refl; same-sizes = λ k l. refl; more-slots = more; more-entries = omega arith })
     (record { first = refl; second = refl })
     (tt, (tt, tt)) in

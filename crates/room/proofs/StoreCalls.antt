@@ -67,7 +67,8 @@ module _ (ns ks : List ℕ) (ps : List Pool) (shaped : shape ps ≡ ns) where
     deletes = record { same = λ h. delete-grow; left = delete-shape }
 
   module _ (narrow : Narrow ns) (few : length ns ≤ 256) where
-    places : (d : List ℕ) (x x′ : Choice) → (isFull x ≡ false → x′ ≡ x) → Inside ns x → Alike (grow ks) (Placed ns) (place ps d x) (place (grow ks ps) d x′)
+    places : (d : List ℕ) (x x′ : Choice) → (isFull x ≡ false → x′ ≡ x) → Inside ns x
+        → Alike (grow ks) (Placed ns) (place ps d x) (place (grow ks ps) d x′)
     unfolding place struck
     places d tooLarge x′ f h = rw (f refl) (refuses _ _ _)
     places d (allTaken k) x′ f h = strikes _ _ _ _ refl

@@ -49,7 +49,7 @@ addresses reset = []
 addresses (deleteKeeping id) = []
 addresses (deleteById id) = []
 
--- an address names a slot of a setup
+-- an address names a slot of a setup, by the bits that decoding keeps
 abbrev pub Named : Setup → ℕ → Type 0
 Named su a = (poolOf a < su .store .pools) × (slotOf a < slotsAt (su .store) (poolOf a))
 
@@ -65,7 +65,7 @@ EveryNamed su (q ∷ qs) = AllNamed su (addresses q) × EveryNamed su qs
 unfoldable pub struck : Paper → Bool
 struck p = eqb (p .number) 12 || eqb (p .number) 14
 
--- a list without those that were so answered: of the requests, or of the answers themselves
+-- a list without what was so answered: the requests, or the answers themselves
 unfoldable pub strike : {A : Type 0} → List Answer → List A → List A
 strike [] xs = []
 strike (a ∷ given) [] = []
@@ -75,7 +75,8 @@ strike (a ∷ given) (x ∷ xs) = cond (struck (a .paper)) (strike given xs) (x 
 abbrev pub answersOf : Setup → UnixTime → Margin → List Request → List Answer
 answersOf su clock margin qs = run su qs (freshState su clock margin) .answers
 
--- the demand, over a rule for spilling. Neither fresh start is refused; of that, it needs no more than that the first setup is none of refusal 1
+-- the demand, for spilling off or on: off is what is asked for. Neither fresh start is refused; of that, it needs no more than that the
+-- first setup is none of refusal 1
 unfoldable pub RoomNeverChangesAnAnswer : Bool → Type 0
 RoomNeverChangesAnAnswer spilling =
     (su lu : Setup) (clock : UnixTime) (margin : Margin) (qs : List Request) →
@@ -83,4 +84,5 @@ RoomNeverChangesAnAnswer spilling =
     Roomier su lu →
     Spills spilling su lu →
     EveryNamed su qs →
-    answersOf lu clock margin (strike (answersOf su clock margin qs) qs) ≡ strike (answersOf su clock margin qs) (answersOf su clock margin qs)
+    let given : List Answer = answersOf su clock margin qs in
+    answersOf lu clock margin (strike given qs) ≡ strike given given

@@ -7,7 +7,7 @@ use mathlib.Core.List.{List, [], _∷_}
 use Rattle.room.specs.Room.{answersOf}
 use Rattle.rules.specs.Papers.{Paper, no}
 use Rattle.schedule.specs.declared.Setup.{Setup}
-use Rattle.scheduler.specs.Steps.{Request, add, delete}
+use Rattle.scheduler.specs.Steps.{Answer, Request, add, delete}
 
 -- so many slots in the first subpool
 abbrev pub slots : ℕ → Setup
@@ -38,4 +38,5 @@ line r q =
 -- what w is answered, by a fresh scheduler
 abbrev pub lastAnswer : Setup → List Request → Paper
 lastAnswer su qs =
-    getD (answersOf su (record { secs = pos 0; nanos = 0 }) (record { secs = 0; nanos = 0 }) qs) 6 (record { paper = no 0 []; buffer = [] }) .paper
+    let given : List Answer = answersOf su (record { secs = pos 0; nanos = 0 }) (record { secs = 0; nanos = 0 }) qs in
+    getD given 6 (record { paper = no 0 []; buffer = [] }) .paper
