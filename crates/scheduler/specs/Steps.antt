@@ -14,6 +14,7 @@ use Rattle.schedule.specs.State.{State, recordOf, withPools}
 use Rattle.schedule.specs.declared.Setup.{Setup}
 use Rattle.store.specs.Calls.{addIn, deleteIn, hasIn, lenIn, packetIn, readIn}
 use Rattle.store.specs.Pools.{Pool, edit, rewrite}
+use Rattle.tick.specs.Tick.{Logged, tickIn}
 use Rattle.time.specs.declared.UnixTime.{UnixTime}
 
 pub data Request : Type 0 where
@@ -33,6 +34,8 @@ pub data Request : Type 0 where
   retrieve deleteWindow : Window → Request
   reset : Request
   deleteKeeping deleteById : ℕ → Request
+  -- the tick: the limit on records, whether packets are deleted, and the log that is lent
+  tick : ℕ → Bool → List ℕ → Request
 
 -- what a request is answered, with the lent buffer as it is afterwards
 pub record Answer : Type 0 where
@@ -46,6 +49,10 @@ pub record Stepped : Type 0 where
 -- an outcome with the state that it leaves; it lends no buffer
 unfoldable pub carried : State → Outcome State → Stepped
 carried s o = record { answer = record { paper = says o; buffer = [] }; state = after o s (λ t. t) }
+
+-- the tick's, with the log that it leaves
+unfoldable pub ticked : State → List ℕ → Outcome Logged → Stepped
+ticked s log o = record { answer = record { paper = says o; buffer = after o log (λ x. x .log) }; state = after o s (λ x. x .state) }
 
 -- one that changes nothing, with the buffer that it leaves
 unfoldable pub looked : {A : Type 0} → State → Outcome A → List ℕ → Stepped
@@ -79,6 +86,7 @@ step su (deleteWindow w) s = carried s (deleteWindowIn w s)
 step su reset s = carried s (resetIn s)
 step su (deleteKeeping id) s = carried s (deleteKeepingIn id s)
 step su (deleteById id) s = carried s (deleteByIdIn id s)
+step su (tick limit del log) s = ticked s log (tickIn limit del log s)
 
 -- one after another
 pub record Ran : Type 0 where

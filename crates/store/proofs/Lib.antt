@@ -9,6 +9,7 @@ pub mod Wrote
 pub mod Find
 pub mod Edit
 pub mod Place
+pub mod Rows
 pub mod Laid
 pub mod Packets
 pub mod Promises

@@ -1,5 +1,8 @@
 -- Where a subpool's rows and bytes lie in what is lent: subpool after subpool, slot after slot.
 use Prim.Native.Nat.{_*_, _+_, suc, zero, ℕ}
+use Rattle.rules.specs.Tests.{unless}
+use Rattle.store.specs.Address.{poolOf, slotOf}
+use lib.Dec.{ltb}
 use lib.ListN.{getD}
 use Rattle.store.specs.declared.Setup.{Setup}
 
@@ -25,3 +28,10 @@ allRows su = rowsBefore su (su .pools)
 
 abbrev pub allBytes : Setup → ℕ
 allBytes su = bytesBefore su (su .pools)
+
+-- the row of the slot that an address names; the number of all rows where the setup has none
+unfoldable pub rowOf : Setup → ℕ → ℕ
+rowOf su a =
+    unless (ltb (poolOf a) (su .pools)) (allRows su)
+    (unless (ltb (slotOf a) (slotsAt su (poolOf a))) (allRows su)
+    (rowsBefore su (poolOf a) + slotOf a))

@@ -1,0 +1,3 @@
+-- The release log.
+pub mod Log
+pub mod Reading

@@ -1,0 +1,4 @@
+-- The proofs of the tick.
+pub mod Lacking
+pub mod Ticking
+pub mod Judged

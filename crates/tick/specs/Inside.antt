@@ -1,0 +1,13 @@
+-- What the contracts of private functions cite. A reader need not believe this: the public call's promise does not name it.
+use Prim.Native.Nat.{ℕ}
+use Rattle.rules.specs.Tests.{allOf, unless}
+use Rattle.store.specs.Pools.{Pool}
+use Rattle.table.specs.Entries.{Entry}
+use Rattle.turns.specs.Parts.{firstTotal}
+use lib.Dec.{ltb}
+use mathlib.Core.Bool.{not}
+use mathlib.Core.List.{List, [], _∷_}
+
+-- the log that the first of n entries needs alone, where it does not fit into cap bytes; 0 where it fits, or there is none
+unfoldable pub lack : ℕ → ℕ → List Entry → List Pool → ℕ
+lack n cap es ps = unless (not (allOf (ltb 0 n ∷ ltb cap (firstTotal es ps) ∷ []))) (firstTotal es ps) 0

@@ -1,0 +1,4 @@
+-- The release tick.
+pub mod Tick
+pub mod Promise
+pub mod Inside

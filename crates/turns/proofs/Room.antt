@@ -1,0 +1,88 @@
+-- The entries that fit do fit: how many they are, and what their log takes.
+-- Assumes nothing.
+use Prim.Native.Nat.{_*_, _+_, _<_, _≤_, suc, zero, ℕ}
+use Rattle.log.proofs.Whole.{length-more}
+use Rattle.log.specs.Log.{LogRecord, mostLogBytes, records, total}
+use Rattle.rules.specs.Tests.{unless}
+use Rattle.store.specs.Pools.{Pool, find}
+use Rattle.store.specs.View.{view}
+use Rattle.store.specs.declared.Setup.{Setup}
+use Rattle.table.proofs.Rows.{length-unpack, take-unpack}
+use Rattle.table.specs.Edits.{without}
+use Rattle.table.specs.Entries.{Entry, relaid, row, unpack}
+use Rattle.turns.proofs.Turning.{length-turns}
+use Rattle.turns.specs.Parts.{Released, Roomy, Turns, firstTotal, fitting, turns}
+use Rattle.turns.specs.Turns.{always, handed, leave, need, packetOf}
+use borrow.Author.Tests.{leb-true}
+use lib.Dec.{leb}
+use lib.ListN.{length, take}
+use mathlib.Core.Bool.{Bool, false, true}
+use mathlib.Core.List.{List, [], _∷_}
+use mathlib.Core.Path.{_∙_, _≡_, refl}
+use native.Mathlib.Omega.{arith}
+
+either : {A : Type 0} (P : A → Type 0) (b : Bool) (x y : A) → (b ≡ true → P x) → (b ≡ false → P y) → P (unless b y x)
+unfolding unless
+either P true x y f g = f refl
+either P false x y f g = g refl
+
+module _ (after : List Pool → ℕ → List Pool) (cap : ℕ) where
+  pub fitting-le : (used : ℕ) (es : List Entry) (ps : List Pool) → fitting after used cap es ps ≤ length es
+  unfolding fitting
+  fitting-le used [] ps = omega arith
+  fitting-le used (e ∷ es) ps =
+      let h = fitting-le (used + need (find ps (e .addr))) es (after ps (e .addr)) in
+      either (λ (n : ℕ). n ≤ suc (length es)) _ _ _ (λ q. omega arith) (λ q. omega arith)
+
+  pub fitting-holds : (on : Entry → Bool) (used : ℕ) (es : List Entry) (ps : List Pool) → used ≤ cap
+      → used + 4 * fitting after used cap es ps + length (records (turns after on (take (fitting after used cap es ps) es) ps)) ≤ cap
+  unfolding fitting turns records
+  fitting-holds on used [] ps h = omega arith
+  fitting-holds on used (e ∷ es) ps h =
+      let r : LogRecord = handed (on e) e (find ps (e .addr)) in
+      let n : ℕ = fitting after (used + need (find ps (e .addr))) cap es (after ps (e .addr)) in
+      either
+      (λ (m : ℕ). used + 4 * m + length (records (turns after on (take m (e ∷ es)) ps)) ≤ cap)
+      _
+      _
+      _
+      (λ q. omega (
+        arith,
+        fitting-holds on (used + need (find ps (e .addr))) es (after ps (e .addr)) (leb-true _ _ q),
+        length-more r (turns after on (take n es) (after ps (e .addr))),
+      ))
+      (λ q. omega arith)
+
+total-of : (rs : List LogRecord) (n t : ℕ) → length rs ≡ n → 8 + 4 * n + length (records rs) ≤ t → total rs ≤ t
+unfolding total
+total-of rs n t e h = omega arith
+
+-- m of the first n rows are released
+module _ (su : Setup) (st le w : List ℕ) (del : Bool) (n cap m : ℕ) (q : m ≡ fitting (leave del) 8 cap (unpack n w) (view su st le)) where
+  pub few : m ≤ n
+  few = omega (arith, fitting-le (leave del) cap 8 (unpack n w) (view su st le), length-unpack n w)
+
+  module _ (on : Bool) (log : List ℕ) where
+    pub roomy : 8 ≤ cap → cap ≤ mostLogBytes → cap ≤ length log → Roomy del on (unpack m w) (view su st le) log
+    roomy h l g =
+        let t : take m (unpack n w) ≡ unpack m w = take-unpack n w m few in
+        let f = rw (← q, t) at (fitting-holds (leave del) cap (always on) 8 (unpack n w) (view su st le) h) in
+        let u = length-turns (leave del) (always on) (unpack m w) (view su st le) ∙ length-unpack m w in
+        let v = total-of (turns (leave del) (always on) (unpack m w) (view su st le)) m cap u f in
+        record { holds = omega arith; small = omega arith }
+
+    pub released : (count : ℕ) (le₁ st′ le′ w′ log′ : List ℕ) → le₁ ≡ le → Turns su del on (unpack m w) st le₁ log st′ le′ log′
+        → w′ ≡ relaid w count (without 0 m (unpack count w)) → Released su del on n cap count st le w log m st′ le′ w′ log′
+    released count le₁ st′ le′ w′ log′ e t x = record { many = q; some = few; turned = rw e at t; moved = x }
+
+-- the first entry's record alone
+pub first-none : (count : ℕ) (w : List ℕ) (ps : List Pool) → count < 1 → 8 ≡ firstTotal (unpack count w) ps
+unfolding unpack
+first-none zero w ps h = refl
+first-none (suc n) w ps h = absurd (omega arith)
+
+pub first-is : (count : ℕ) (w : List ℕ) (ps : List Pool) (a n : ℕ) → 1 ≤ count → a ≡ row w 0 .addr → length (packetOf (find ps a)) ≡ n
+    → 29 + n ≡ firstTotal (unpack count w) ps
+unfolding unpack
+first-is zero w ps a n h q e = absurd (omega arith)
+first-is (suc k) w ps a n h q e = let f = rw q at e in omega (arith, f)

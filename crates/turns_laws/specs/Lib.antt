@@ -1,0 +1,2 @@
+-- The words of the tick's laws.
+pub mod Draining
