@@ -34,7 +34,7 @@ module _ (ns : List ℕ) where
   take-slots (suc i) [] n = tt
   take-slots (suc i) (e ∷ es) n = (n .0, take-slots i es (n .1))
 
-  drop-slots : (i : ℕ) (es : List Entry) → Slots es → Slots (drop i es)
+  pub drop-slots : (i : ℕ) (es : List Entry) → Slots es → Slots (drop i es)
   drop-slots zero es n = n
   drop-slots (suc i) [] n = tt
   drop-slots (suc i) (e ∷ es) n = drop-slots i es (n .1)

@@ -7,6 +7,7 @@ pub mod Entries
 pub mod States
 pub mod Inserting
 pub mod Deleting
+pub mod Ticking
 pub mod Steps
 pub mod Fresh
 pub mod Demand

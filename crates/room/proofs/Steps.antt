@@ -1,12 +1,13 @@
 -- One request to the smaller scheduler and to the larger.
 use Prim.Native.Nat.{_≤_, ℕ}
-use Rattle.room.proofs.Alike.{answer-stays, answered-too, clash, refused-too}
+use Rattle.room.proofs.Alike.{Alike, answer-stays, answered-too, clash, refused-too}
 use Rattle.room.proofs.Choosing.{Narrow}
 use Rattle.room.proofs.Deleting.{by-id, keeping, resets, windows}
 use Rattle.room.proofs.Grow.{Slotted, edit-grow, grow, shape, shape-edit}
 use Rattle.room.proofs.Inserting.{stored, unwrapped, wrapped}
 use Rattle.room.proofs.States.{Fit, Same, answer-too, grown, pools-too, record-too}
 use Rattle.room.proofs.StoreCalls.{Placed, adds, deletes, has-grow, here, len-grow, packet-grow, read-grow}
+use Rattle.room.proofs.Ticking.{grown-log, ticks}
 use Rattle.room.specs.Room.{Spills, addresses, struck}
 use Rattle.rules.specs.Papers.{Outcome, after, done, into, refused, says}
 use Rattle.schedule.specs.State.{State, recordOf, withPools}
@@ -15,7 +16,8 @@ use Rattle.schedule.specs.Counting.{countIn}
 use Rattle.deletions.specs.Windowing.{retrieveIn}
 use Rattle.deletions.specs.declared.Window.{Window}
 use Rattle.record.specs.Record.{clockIn, markIn}
-use Rattle.scheduler.specs.Steps.{Request, Stepped, add, carried, count, delete, deleteById, deleteKeeping, deleteWindow, disable, enable, hasElementAt, insertStored, insertUnwrapped, insertWrapped, lenOfData, looked, modify, read, reset, retrieve, setClock, step}
+use Rattle.scheduler.specs.Steps.{Request, Stepped, add, carried, count, delete, deleteById, deleteKeeping, deleteWindow, disable, enable, hasElementAt, insertStored, insertUnwrapped, insertWrapped, lenOfData, looked, modify, read, reset, retrieve, setClock, step, tick, ticked}
+use Rattle.tick.specs.Tick.{Logged}
 use Rattle.store.specs.Calls.{packetIn}
 use Rattle.store.specs.Pools.{edit, rewrite}
 use lib.ListN.{length}
@@ -49,6 +51,14 @@ module _ (ns ks : List ℕ) (s : State) (fits : Fit ns s) where
   carries (refused p) o′ a = record { alike = λ h. rw (refused-too _ _ p o′ a h); still = λ h. refl; fit = fits }
   carries (done vs t) o′ a =
       record { alike = λ h. rw (answered-too _ _ vs t o′ a); still = λ h. clash _ h (answer-stays vs); fit = a .left }
+
+  -- the tick, which leaves a state and a log
+  releases : (log : List ℕ) (o o′ : Outcome Logged) → Alike (grown-log ks) (λ vs x. Fit ns (x .state)) o o′
+      → Good ns ks s (ticked s log o) (ticked (grown ks s) log o′)
+  unfolding ticked says after
+  releases log (refused p) o′ a = record { alike = λ h. rw (refused-too _ _ p o′ a h); still = λ h. refl; fit = fits }
+  releases log (done vs x) o′ a =
+      record { alike = λ h. rw (answered-too _ _ vs x o′ a); still = λ h. clash _ h (answer-stays vs); fit = a .left }
 
   -- a call that changes nothing
   looks : {A : Type 0} (o o′ : Outcome A) (buf buf′ : List ℕ) → o′ ≡ o → buf′ ≡ buf → Good ns ks s (looked s o buf) (looked (grown ks s) o′ buf′)
@@ -94,3 +104,4 @@ module _ (ns ks : List ℕ) (s : State) (fits : Fit ns s) where
     steps reset n = carries _ _ (resets ns ks s fits)
     steps (deleteKeeping id) n = carries _ _ (keeping ns ks id s fits)
     steps (deleteById id) n = carries _ _ (by-id ns ks id s fits)
+    steps (tick limit del log) n = releases log _ _ (ticks ns ks limit del log s fits)

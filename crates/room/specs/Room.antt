@@ -9,7 +9,7 @@ use mathlib.Core.Path.{_≡_}
 use Rattle.rules.specs.Papers.{Paper}
 use Rattle.schedule.specs.Judge.{setupOk}
 use Rattle.schedule.specs.Starting.{freshState}
-use Rattle.scheduler.specs.Steps.{Answer, Request, add, count, delete, deleteById, deleteKeeping, deleteWindow, disable, enable, hasElementAt, insertStored, insertUnwrapped, insertWrapped, lenOfData, modify, read, reset, retrieve, run, setClock}
+use Rattle.scheduler.specs.Steps.{Answer, Request, add, count, delete, deleteById, deleteKeeping, deleteWindow, disable, enable, hasElementAt, insertStored, insertUnwrapped, insertWrapped, lenOfData, modify, read, reset, retrieve, run, setClock, tick}
 use Rattle.schedule.specs.declared.Setup.{Setup}
 use Rattle.store.specs.Address.{poolOf, slotOf}
 use Rattle.store.specs.Layout.{sizeAt, slotsAt}
@@ -48,6 +48,7 @@ addresses (deleteWindow w) = []
 addresses reset = []
 addresses (deleteKeeping id) = []
 addresses (deleteById id) = []
+addresses (tick limit del log) = []
 
 -- an address names a slot of a setup, by the bits that decoding keeps
 abbrev pub Named : Setup → ℕ → Type 0
