@@ -1,0 +1,81 @@
+-- The store's calls on the smaller store and on the larger.
+use Prim.Native.Nat.{_≤_, ℕ}
+use Rattle.room.proofs.Alike.{Alike, Left, answers, refuses, strikes}
+use Rattle.room.proofs.Choosing.{Inside, Narrow, choose-grow, choose-in, isFull, slotted}
+use Rattle.room.proofs.Grow.{Slotted, edit-grow, editAt-grow, find-grow, grow, shape, shape-edit, shape-editAt}
+use Rattle.room.specs.Room.{struck}
+use Rattle.rules.specs.Papers.{done, into}
+use Rattle.store.specs.Calls.{addIn, deleteIn, hasIn, ifHeld, ifNamed, lenIn, packetIn, place, readIn}
+use Rattle.store.specs.Pools.{Choice, Found, Pool, allTaken, edit, fill, find, held, noPool, noSlot, tooLarge, vacant, wipe}
+use Rattle.store.specs.Pools as P
+use lib.ListN.{getD, length}
+use mathlib.Core.Bool.{Bool, false}
+use mathlib.Core.List.{List, []}
+use mathlib.Core.Path.{_∙_, _≡_, refl}
+
+-- what an addition leaves has the same shape, and its answer is the address of a slot of the smaller
+abbrev pub Placed : List ℕ → List ℕ → List Pool → Type 0
+Placed ns vs qs = (shape qs ≡ ns) × Slotted ns (getD vs 0 0)
+
+module _ (ns ks : List ℕ) (ps : List Pool) (shaped : shape ps ≡ ns) where
+  module _ (a : ℕ) (named : Slotted ns a) where
+    pub here : Slotted (shape ps) a
+    here = rw shaped named
+
+    pub found : find (grow ks ps) a ≡ find ps a
+    found = find-grow ks ps a here
+
+    pub read-grow : (buf : List ℕ) → readIn (grow ks ps) a buf ≡ readIn ps a buf
+    unfolding readIn
+    read-grow buf = rw found
+
+    pub packet-grow : packetIn (grow ks ps) a ≡ packetIn ps a
+    unfolding packetIn
+    packet-grow = rw found
+
+    pub has-grow : hasIn (grow ks ps) a ≡ hasIn ps a
+    unfolding hasIn
+    has-grow = rw found
+
+    pub len-grow : lenIn (grow ks ps) a ≡ lenIn ps a
+    unfolding lenIn
+    len-grow = rw found
+
+    delete-by : (x : Found) (qs : List Pool) → ifHeld a x (λ n b. done [] (grow ks qs)) ≡ into (grow ks) (ifHeld a x (λ n b. done [] qs))
+    unfolding into ifHeld ifNamed
+    delete-by noPool qs = refl
+    delete-by noSlot qs = refl
+    delete-by vacant qs = refl
+    delete-by (held n b) qs = refl
+
+    pub delete-grow : deleteIn (grow ks ps) a ≡ into (grow ks) (deleteIn ps a)
+    unfolding deleteIn
+    delete-grow = rw (found, edit-grow wipe ks ps a here) (delete-by (find ps a) (edit wipe ps a))
+
+    shape-by : (x : Found) (qs : List Pool) → shape qs ≡ ns → Left (λ vs rs. shape rs ≡ ns) (ifHeld a x (λ n b. done [] qs))
+    unfolding ifHeld ifNamed
+    shape-by noPool qs e = tt
+    shape-by noSlot qs e = tt
+    shape-by vacant qs e = tt
+    shape-by (held n b) qs e = e
+
+    pub delete-shape : Left (λ vs rs. shape rs ≡ ns) (deleteIn ps a)
+    unfolding deleteIn
+    delete-shape = shape-by (find ps a) (edit wipe ps a) (shape-edit wipe ps a ∙ shaped)
+
+    pub deletes : Alike (grow ks) (λ vs rs. shape rs ≡ ns) (deleteIn ps a) (deleteIn (grow ks ps) a)
+    deletes = record { same = λ h. delete-grow; left = delete-shape }
+
+  module _ (narrow : Narrow ns) (few : length ns ≤ 256) where
+    places : (d : List ℕ) (x x′ : Choice) → (isFull x ≡ false → x′ ≡ x) → Inside ns x
+        → Alike (grow ks) (Placed ns) (place ps d x) (place (grow ks ps) d x′)
+    unfolding place struck
+    places d tooLarge x′ f h = rw (f refl) (refuses _ _ _)
+    places d (allTaken k) x′ f h = strikes _ _ _ _ refl
+    places d (P.into k i) x′ f h =
+        rw (f refl, editAt-grow (fill d) ks ps k i (rw shaped h))
+        (answers _ _ _ _ (shape-editAt (fill d) ps k i ∙ shaped, slotted ns k i narrow few h))
+
+    pub adds : (d : List ℕ) (x y : Bool) → x ≡ false → y ≡ false → Alike (grow ks) (Placed ns) (addIn x ps d) (addIn y (grow ks ps) d)
+    unfolding addIn
+    adds d x y e f = rw (e, f) (places d _ _ (choose-grow ks ps (length d)) (rw (← shaped) (choose-in ps (length d))))

@@ -1,0 +1,3 @@
+-- Demand 3: room never changes an answer.
+pub mod Room
+pub mod Spilling
