@@ -1,7 +1,7 @@
 -- An order of refusals, read back: what came of a column of `unless` says which tests passed.
 -- Assumes nothing.
 use Prim.Native.Nat.{ℕ}
-use Rattle.rules.specs.Papers.{Outcome, Paper, after, done, judgedBy, no, refused, says}
+use Rattle.rules.specs.Papers.{Outcome, Paper, after, done, into, judgedBy, no, refused, says}
 use Rattle.rules.specs.Tests.{unless}
 use mathlib.Core.Bool.{Bool, false, true}
 use mathlib.Core.List.{[]}
@@ -35,3 +35,14 @@ one-failed true true true o p n q = absurd (n (ap (λ (x : Paper). x .number) q)
 one-failed false b d o p n q = ap refused (sym q)
 one-failed true false d o p n q = ap refused (sym q)
 one-failed true true false o p n q = ap refused (sym q)
+
+-- an outcome with what is left put through a function: it says the same, and leaves what the function makes of it
+pub into-says : {A B : Type 0} (f : A → B) (o : Outcome A) → says (into f o) ≡ says o
+unfolding into says
+into-says f (refused p) = refl
+into-says f (done vs x) = refl
+
+pub into-after : {A B : Type 0} (f : A → B) (o : Outcome A) (b : B) → after (into f o) b (λ t. t) ≡ after o b f
+unfolding into after
+into-after f (refused p) b = refl
+into-after f (done vs x) b = refl

@@ -2,7 +2,7 @@
 -- it refuses, and has one outcome only.
 use Prim.Native.Nat.{_-_, _≤_, ℕ}
 use Rattle.record.specs.declared.Record.{Record}
-use Rattle.rules.proofs.Order.{refusal-keeps}
+use Rattle.rules.proofs.Order.{into-after, into-says, refusal-keeps}
 use Rattle.rules.specs.Papers.{Outcome, Paper, after, done, into, refused, says}
 use Rattle.rules.specs.Tests.{unless}
 use Rattle.schedule.proofs.Promises.{judging-fine}
@@ -70,16 +70,6 @@ module _ (su : Setup) (s : State) (f : Fits su s) (limit : ℕ) (del : Bool) (lo
   tick-gives = unless-left _ _ _ (unless-left _ _ _ hands-gives)
 
 -- ---- outcome and step
-
-into-says : {A B : Type 0} (f : A → B) (o : Outcome A) → says (into f o) ≡ says o
-unfolding into says
-into-says f (refused p) = refl
-into-says f (done vs x) = refl
-
-pub into-after : {A B : Type 0} (f : A → B) (o : Outcome A) (b : B) → after (into f o) b (λ t. t) ≡ after o b f
-unfolding into after
-into-after f (refused p) b = refl
-into-after f (done vs x) b = refl
 
 module _ (su : Setup) (r : Record) (st le ro lo : List ℕ) (limit : ℕ) (del : Bool) (p : Paper) (r′ : Record) (st′ le′ ro′ lo′ : List ℕ)
     (w : Ticks su r st le ro lo (judging su r st le ro (tickIn limit del lo)) p r′ st′ le′ ro′ lo′) where

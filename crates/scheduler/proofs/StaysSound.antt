@@ -4,6 +4,7 @@ use Prim.Native.Nat.{ℕ}
 use Rattle.record.specs.Record.{clockIn, markIn, timesInRange, withClock, withMark}
 use Rattle.record.specs.declared.Record.{Record}
 use Rattle.rules.proofs.All.{all-each, and-right, each-all}
+use Rattle.rules.proofs.Order.{into-after}
 use Rattle.rules.specs.Papers.{Outcome, Paper, after, done, no, refused, says}
 use Rattle.rules.specs.Tests.{unless}
 use Rattle.schedule.proofs.Promises.{judging-fine, writes}
@@ -13,7 +14,7 @@ use Rattle.schedule.specs.Starting.{Starts, freshState, startIn}
 use Rattle.schedule.specs.State.{State, stateOf}
 use Rattle.schedule.specs.declared.Setup.{Setup}
 use Rattle.scheduler.proofs.Calls.{add-gives, by-id-gives, clock-gives, delete-gives, gives-after, keeping-gives, mark-gives, modify-gives, reset-gives, start-gives, stored-gives, unwrapped-gives, window-gives, wrapped-gives}
-use Rattle.scheduler.proofs.Releasing.{into-after, tick-gives}
+use Rattle.scheduler.proofs.Releasing.{tick-gives}
 use Rattle.scheduler.proofs.Standing.{laid-sound, laid-state, outcome-sound, sound-fits}
 use Rattle.scheduler.specs.Fits.{AllOfBytes, Fits, Gives, OfBytes}
 use Rattle.scheduler.specs.Steps.{Request, add, carried, count, delete, deleteById, deleteKeeping, deleteWindow, disable, enable, hasElementAt, insertStored, insertUnwrapped, insertWrapped, lenOfData, looked, modify, read, reset, retrieve, run, setClock, step, tick, ticked}

@@ -6,6 +6,7 @@ use Rattle.deletions.specs.declared.Window.{Window}
 use Rattle.insertions.specs.Inserting.{insertStoredIn, insertUnwrappedIn, insertWrappedIn}
 use Rattle.record.specs.Record.{clockIn, markIn, timesInRange, withClock, withMark}
 use Rattle.record.specs.declared.Record.{Record}
+use Rattle.rules.proofs.Order.{into-says}
 use Rattle.rules.specs.Papers.{Outcome, Paper, after, done, into, no, refused, says}
 use Rattle.rules.specs.Tests.{unless}
 use Rattle.schedule.proofs.Facts.{facts}
@@ -106,11 +107,6 @@ mark-after on r = go (timesInRange r)
     go : (a : Bool) → after (unless a (refused (no 3 [])) (done [] (withMark on r))) r (λ x. x) .count ≡ r .count
     go false = refl
     go true = refl
-
-into-says : {A B : Type 0} (f : A → B) (o : Outcome A) → says (into f o) ≡ says o
-unfolding into says
-into-says f (refused p) = refl
-into-says f (done vs x) = refl
 
 module _ (su : Setup) (r : Record) (st le ro : List ℕ) (s : Sound su r st le ro) (p : Paper) (r′ : Record) where
   record-after : (o : Outcome Record) → after (ofRecord (stateOf su r st le ro) o) (stateOf su r st le ro) (λ t. t)
