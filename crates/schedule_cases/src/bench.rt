@@ -1,4 +1,4 @@
-// What a call is given beside the lent tables, and one call: its answer, and what it changed.
+// What a call is given beside the lent tables, and a call of the scheduler on as much of them as is lent.
 use crate::calls;
 use crate::edits;
 use crate::show;
