@@ -81,20 +81,23 @@ module _ (su : Setup) (r : Record) (st le ro lo : List ℕ) (limit : ℕ) (del :
       let x : State = stateOf su r st le ro in
       let o : Outcome Logged = tickIn limit del lo x in
       let v = rw (judging-fine su r st le ro (tickIn limit del lo) s) at w in
-      let g = tick-gives su x (sound-fits su r st le ro s) limit del lo in
-      (record {
-        sound = outcome-sound su r st le ro s p r′ st′ le′ ro′ (left o) g (v .tables);
-        answer = v .tables .answer ∙ into-says (λ (y : Logged). y .state) o;
-        state = outcome-state su r st le ro s p r′ st′ le′ ro′ (left o) g (v .tables) ∙ into-after (λ (y : Logged). y .state) o x;
-      }, v .log)
+      let g = tick-gives su x (sound-fits su r st le ro s) limit del lo in (
+        record {
+          sound = outcome-sound su r st le ro s p r′ st′ le′ ro′ (left o) g (v .tables);
+          answer = v .tables .answer ∙ into-says (λ (y : Logged). y .state) o;
+          state = outcome-state su r st le ro s p r′ st′ le′ ro′ (left o) g (v .tables) ∙ into-after (λ (y : Logged). y .state) o x;
+        },
+        v .log,
+      )
 
   -- a refusal changes no lent byte and no record, nor the log
   pub tick-keeps : (p .number ≡ 0 → ⊥) → Same r r′ st st′ le le′ ro ro′ × (lo′ ≡ lo)
   tick-keeps above =
       let o : Outcome Logged = judging su r st le ro (tickIn limit del lo) in
-      let e : p ≡ says o = w .tables .answer ∙ into-says (λ (y : Logged). y .state) o in
-      (call-keeps su r st le ro p r′ st′ le′ ro′ above (left o) (w .tables),
-      w .log ∙ refusal-keeps o lo (λ (y : Logged). y .log) (λ z. above (ap (λ (y : Paper). y .number) e ∙ z)))
+      let e : p ≡ says o = w .tables .answer ∙ into-says (λ (y : Logged). y .state) o in (
+        call-keeps su r st le ro p r′ st′ le′ ro′ above (left o) (w .tables),
+        w .log ∙ refusal-keeps o lo (λ (y : Logged). y .log) (λ z. above (ap (λ (y : Paper). y .number) e ∙ z)),
+      )
 
   -- one outcome only: two results that the promise allows are equal
   pub one-tick : (q : Paper) (r″ : Record) (st″ le″ ro″ lo″ : List ℕ)
