@@ -1,4 +1,4 @@
--- The scheduler's laws: RefusalKeeps, OneToOne, OneOutcome, StaysSound, Stepping, and Releasing for the tick. The other files help them.
+-- The scheduler's laws: RefusalKeeps, OneToOne, OneOutcome, StaysSound, Stepping, and Releasing and Draining for the tick. The other files help them.
 pub mod RefusalKeeps
 pub mod Back
 pub mod OneToOne
@@ -11,3 +11,4 @@ pub mod Standing
 pub mod Releasing
 pub mod StaysSound
 pub mod Stepping
+pub mod Draining

@@ -67,7 +67,7 @@ fitting-ample big del used cap (e ∷ es) ps s h =
     (ap suc
     (fitting-ample big del (used + need (find ps (e .addr))) cap es (leave del ps (e .addr)) (short-leave big del ps (e .addr) s) (omega arith)))
 
-short-handout : (big : ℕ) (del : Bool) (on : Entry → Bool) (ck k used cap : ℕ) (es : List Entry) (ps : List Pool) → Short big ps
+pub short-handout : (big : ℕ) (del : Bool) (on : Entry → Bool) (ck k used cap : ℕ) (es : List Entry) (ps : List Pool) → Short big ps
     → Short big (handout (leave del) on ck k used cap es ps .pools)
 unfolding handout
 short-handout big del on ck k used cap [] ps s = s
@@ -76,7 +76,7 @@ short-handout big del on ck k used cap (e ∷ es) ps s =
     (λ q. short-handout big del on ck (k - 1) (used + need (find ps (e .addr))) cap es (leave del ps (e .addr)) (short-leave big del ps (e .addr) s))
     (λ q. s)
 
-up : (d k n : ℕ) → 1 ≤ k → roundedUp d k ≤ n → d ≤ n * k
+pub up : (d k n : ℕ) → 1 ≤ k → roundedUp d k ≤ n → d ≤ n * k
 up d k n h l =
     let e = div-add-mod' (d + (k - 1)) k in
     let r = mod-lt (d + (k - 1)) {m = k} h in

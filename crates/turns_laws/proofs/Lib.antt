@@ -5,3 +5,4 @@ pub mod Largest
 pub mod Follows
 pub mod Packets
 pub mod Drains
+pub mod FromLog

@@ -1,0 +1,39 @@
+-- A reader of the log that a handout fills finds the records that were handed out, each where its offset says.
+-- Assumes nothing.
+use Prim.Native.Nat.{_<_, _^_, _≤_, suc, zero, ℕ}
+use Rattle.log.proofs.ReadBack.{Plain, read-back}
+use Rattle.log.specs.Log.{logBytes, mostLogBytes}
+use Rattle.log.specs.Reading.{readLog}
+use Rattle.store.specs.Pools.{Pool}
+use Rattle.table.specs.Entries.{Entry}
+use Rattle.turns.specs.Parts.{turns}
+use Rattle.turns.specs.Turns.{handout}
+use Rattle.turns_laws.proofs.Largest.{largest}
+use Rattle.turns_laws.proofs.Split.{splits}
+use lib.ListN.{length, take}
+use lib.Seq.{sets}
+use mathlib.Core.Bool.{Bool}
+use mathlib.Core.List.{List, [], _∷_}
+use mathlib.Core.Path.{_≡_}
+use native.Mathlib.Omega.{arith}
+
+-- request IDs and addresses are words, as every row's are by its type
+abbrev pub WordsIn : List Entry → Type 0
+WordsIn [] = Unit {0}
+WordsIn (e ∷ es) = (e .id < 2 ^ 64) × (e .addr < 2 ^ 64) × WordsIn es
+
+plain-turns : (after : List Pool → ℕ → List Pool) (on : Entry → Bool) (m : ℕ) (es : List Entry) (ps : List Pool) → WordsIn es
+    → Plain (turns after on (take m es) ps)
+unfolding turns
+plain-turns after on zero es ps w = tt
+plain-turns after on (suc m) [] ps w = tt
+plain-turns after on (suc m) (e ∷ es) ps w = (record { id-fits = w .0; addr-fits = w .1 }, plain-turns after on m es (after ps (e .addr)) (w .2))
+
+pub log-reads : (after : List Pool → ℕ → List Pool) (on : Entry → Bool) (ck limit cap : ℕ) (log : List ℕ) (es : List Entry) (ps : List Pool)
+    → 8 ≤ cap → cap ≤ length log → cap ≤ mostLogBytes → WordsIn es
+    → readLog (sets log 0 (logBytes (handout after on ck limit 8 cap es ps .records))) ≡ handout after on ck limit 8 cap es ps .records
+log-reads after on ck limit cap log es ps h l b w =
+    let m = length (handout after on ck limit 8 cap es ps .records) in
+    let s = splits after on ck limit 8 cap es ps in
+    let f = largest after on ck limit cap es ps h .fits in
+    rw (s .records-are) (read-back log (turns after on (take m es) ps) (plain-turns after on m es ps w) (omega arith) (omega arith))
