@@ -20,7 +20,6 @@ pub fn one(
     let setup = b.setup;
     let rec = b.rec;
     if k == b't' {
-        state::fill(log);
         return bench::with_record(b, tick(b, text, store, lens, rows, log));
     }
     if k == b'S' {
@@ -34,12 +33,15 @@ pub fn one(
     }
     if k == b'N' {
         state::set_length(text, lens);
+        return b;
     }
     if k == b'W' {
         state::set_word(text, rows);
+        return b;
     }
     if k == b'V' {
         state::view(text, store, lens, rows);
+        return b;
     }
     bench::with_record(b, change(setup, rec, k, text, store, lens, rows))
 }
@@ -98,9 +100,11 @@ fn change(
     }
     if k == b'a' {
         add(setup.store, text, store, lens);
+        return rec;
     }
     if k == b'v' {
         store::delete(setup.store, store, lens, line::number(text, 0));
+        return rec;
     }
     if k == b'i' {
         return insert(setup, rec, text, store, lens, rows);

@@ -44,44 +44,55 @@ fn with_digit(v: u64, b: u8) -> u64 {
     if b > b'9' {
         return v;
     }
-    if v > 1844674407370955160 {
+    if v > 1844674407370955161 {
         return v;
     }
-    v * 10 + (b - b'0') as u64
+    std::num::wrapping_add_u64(v * 10, (b - b'0') as u64)
+}
+
+fn if_here(v: u64, here: bool, b: u8) -> u64 {
+    if here {
+        return with_digit(v, b);
+    }
+    v
+}
+
+// One number more is passed where a digit is not followed by another.
+fn passed(seen: u64, inside: bool, digit: bool) -> u64 {
+    if digit {
+        return seen;
+    }
+    if inside {
+        return std::num::wrapping_add_u64(seen, 1);
+    }
+    seen
 }
 
 // Number k of the line, counted from 0; 0 where there is none.
-pub fn number(text: &[u8], k: usize) -> u64 {
+pub fn number(text: &[u8], k: u64) -> u64 {
     let mut v: u64 = 0;
-    let mut seen: usize = 0;
+    let mut seen: u64 = 0;
     let mut inside = false;
     let mut i: usize = 0;
     while i < text.len() {
         let digit = is_digit(text[i]);
-        if digit {
-            if seen == k {
-                v = with_digit(v, text[i]);
-            }
-        } else {
-            if inside {
-                seen += 1;
-            }
-        }
+        v = if_here(v, seen == k, text[i]);
+        seen = passed(seen, inside, digit);
         inside = digit;
         i += 1;
     }
     v
 }
 
-pub fn index(text: &[u8], k: usize) -> usize {
+pub fn index(text: &[u8], k: u64) -> usize {
     number(text, k) as usize
 }
 
-pub fn short(text: &[u8], k: usize) -> u16 {
+pub fn short(text: &[u8], k: u64) -> u16 {
     (number(text, k) % 65536) as u16
 }
 
-fn nanos(text: &[u8], k: usize) -> u32 {
+fn nanos(text: &[u8], k: u64) -> u32 {
     (number(text, k) % 4294967296) as u32
 }
 
@@ -93,7 +104,7 @@ fn secs(v: u64) -> i64 {
 }
 
 // Numbers k and k + 1: seconds and nanoseconds.
-pub fn time(text: &[u8], k: usize) -> UnixTime
+pub fn time(text: &[u8], k: u64) -> UnixTime
     requires { ⌜ k < 100 ⌝ }
 {
     UnixTime {
@@ -102,7 +113,7 @@ pub fn time(text: &[u8], k: usize) -> UnixTime
     }
 }
 
-pub fn margin(text: &[u8], k: usize) -> Margin
+pub fn margin(text: &[u8], k: u64) -> Margin
     requires { ⌜ k < 100 ⌝ }
 {
     Margin {

@@ -13,10 +13,9 @@ fn main() {
 
 // Room for the largest store, 256 slots, 4,096 entries and the longest used part of a log, and some beyond each but the store.
 fn all(text: &[u8]) {
-    let mut store = [0u8; 1048576];
+    let mut store = state::room();
     let mut lens = [60000u16; 258];
     let mut rows = [77u64; 16388];
-    let mut log = [238u8; 1048584];
     let mut b = bench::none();
     let mut at: usize = 0;
     while at < text.len() {
@@ -25,6 +24,7 @@ fn all(text: &[u8]) {
             return;
         }
         let next = end + 1;
+        let mut log = state::blank();
         let s = store;
         let l = lens;
         let r = rows;

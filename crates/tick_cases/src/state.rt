@@ -1,20 +1,20 @@
-// What the scheduler is lent: filled, damaged, compared with a copy, and written out.
+// What the scheduler is lent: damaged, compared with a copy, and written out.
 use crate::bench;
 use crate::line;
 use crate::show;
 use record::Record;
 
-// The byte that stands in a log before each tick.
-pub fn fill(part: &mut [u8]) {
-    let n = part.len();
-    let mut i: usize = 0;
-    while i < n {
-        part[i] = 238;
-        i += 1;
-    }
+// Room for the largest store.
+pub fn room() -> [u8; 1048576] {
+    [0u8; 1048576]
 }
 
-// v, v + 1, .. modulo 199, so that no byte of a packet is the one that stands in a log before.
+// A log that is longer than the part that a tick uses.
+pub fn blank() -> [u8; 1048584] {
+    [238u8; 1048584]
+}
+
+// v, v + 1, .. modulo 199, so that no byte of a packet is 238, as those of a log are before the tick.
 pub fn count_up(part: &mut [u8], v: u64) {
     let n = part.len();
     let mut b = v % 199;
@@ -88,7 +88,7 @@ fn numbers64(part: &[u64]) {
     }
 }
 
-// How long the part is that a tick wrote: behind it every byte is as it was filled.
+// How long the part is that a tick wrote: behind it every byte is 238, as all were.
 fn written(part: &[u8]) -> usize {
     let mut n = part.len();
     while n > 0 {
