@@ -19,6 +19,7 @@ pub fn one(
 ) -> Bench {
     let setup = b.setup;
     let rec = b.rec;
+    show::say(text);
     if k == b't' {
         return bench::with_record(b, tick(b, text, store, lens, rows, log));
     }

@@ -30,7 +30,6 @@ fn all(text: &[u8]) {
         let r = rows;
         let old = b.rec;
         let k = line::first(&text[at..end]);
-        show::say(&text[at..end]);
         b = calls::one(
             b,
             k,
@@ -41,11 +40,7 @@ fn all(text: &[u8]) {
             &mut log,
         );
         let new = b.rec;
-        if k == b't' {
-            state::log(&log);
-            state::changes(old, new, &s, &store, &l, &lens, &r, &rows);
-        }
-        show::say(b"\n");
+        state::changes(k, &log, old, new, &s, &store, &l, &lens, &r, &rows);
         at = next;
     }
 }

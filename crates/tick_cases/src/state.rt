@@ -102,7 +102,7 @@ fn written(part: &[u8]) -> usize {
 }
 
 // How many bytes were written, and which; of more than 160 the first eight, and the check code of all.
-pub fn log(part: &[u8]) {
+fn show_log(part: &[u8]) {
     let n = bench::least(written(part), part.len());
     show::number(b" ; log: ", n as u64);
     show::say(b" bytes ");
@@ -167,8 +167,10 @@ fn same_record(a: Record, b: Record) -> bool {
     if a.enabled { b.enabled } else { !b.enabled }
 }
 
-// What a tick changed, found by comparison with copies: also of what was not lent. The record's count is written out.
+// After a tick: its log, and what it changed, found by comparison with copies: also of what was not lent. The record's count is written out.
 pub fn changes(
+    k: u8,
+    log: &[u8],
     old: Record,
     new: Record,
     s: &[u8; 1048576],
@@ -178,6 +180,11 @@ pub fn changes(
     r: &[u64; 16388],
     rows: &[u64; 16388],
 ) {
+    if k != b't' {
+        show::say(b"\n");
+        return;
+    }
+    show_log(log);
     show::number(b" ; count ", old.count as u64);
     show::number(b" to ", new.count as u64);
     show::say(b" ; changed:");
@@ -185,6 +192,7 @@ pub fn changes(
     unless(b" store", same_bytes(s, store));
     unless(b" lengths", same_lens(l, lens));
     unless(b" rows", same_rows(r, rows));
+    show::say(b"\n");
 }
 
 fn unless(name: &[u8], same: bool) {

@@ -1,16 +1,34 @@
 -- `tick_cases::all` meets its contract.
 use Prim.Native.Nat.{_-_, _≤_}
 use lib.ListN.{length}
-use mathlib.Core.Path.{_≡_}
+use mathlib.Core.Path.{_∙_, _≡_}
+use native.Mathlib.Omega.{arith}
 use borrow.Author.Needs.{needs}
 use Rattle.tick_cases.proofs.all.Statement.{statement}
 use Rattle.tick_cases.proofs.all.Tie as tie
 
 abbrev Inv-loop : tie.InvT-loop
-Inv-loop text store₀ lens₀ rows₀ b₀ at₀ t16 store lens rows b at = (at ≤ length text) × (length store ≡ 1048576) × (length lens ≡ 258) × (length rows ≡ 16388)
+Inv-loop text store₀ lens₀ rows₀ b₀ at₀ store lens rows b at = (at ≤ length text) × (length store ≡ 1048576) × (length lens ≡ 258) × (length rows ≡ 16388)
 
 abbrev μ-loop : tie.MeasureT-loop
-μ-loop text store₀ lens₀ rows₀ b₀ at₀ t16 store lens rows b at = length text - at
+μ-loop text store₀ lens₀ rows₀ b₀ at₀ store lens rows b at = length text - at
+
+loop-less : tie.Need-loop-less Inv-loop μ-loop
+loop-less c =
+    let end = c .before .before .before .before .before .before .before .before .before .before .before .before .before .before .before .before .before .before .before .before .before .before .before in
+    omega (arith, end .before .end .ensures, end .if1 .left)
+
+loop-again : tie.Need-loop-again Inv-loop μ-loop
+loop-again c =
+    let done = c .before .before .before .before .before .before .before .before .before .before .before .before .before in
+    let end = done .before .before .before .before .before .before .before .before .before .before in
+    let inv = end .before .before .before .loop .inv in
+    (
+        omega (arith, end .if1 .left),
+        done .one .kept .1 .1 .1 .0 ∙ inv .1,
+        done .one .kept .1 .1 .1 .1 .0 ∙ inv .2,
+        done .one .kept .1 .1 .1 .1 .1 .0 ∙ inv .3,
+    )
 
 pub all-spec : {M : Type 1} → statement M
 all-spec =
@@ -32,10 +50,6 @@ all-spec =
     (λ c. search needs)
     (λ c. search needs)
     (λ c. search needs)
-    (λ c κs. search needs)
-    (λ c. search needs)
-    (λ c. search needs)
-    (λ c. search needs)
     (λ c. search needs)
     (λ c. search needs)
     (λ c. search needs)
@@ -43,9 +57,6 @@ all-spec =
     (λ c κs. search needs)
     (λ c. search needs)
     (λ c κs. search needs)
-    (λ c κs. search needs)
-    (λ c. search needs)
-    (λ c κs. search needs)
-    (λ c. search needs)
-    (λ c. search needs)
+    loop-less
+    loop-again
     (λ c. search needs))
