@@ -15,19 +15,19 @@ abbrev μ-loop : tie.MeasureT-loop
 
 loop-less : tie.Need-loop-less Inv-loop μ-loop
 loop-less c =
-    let end = c .before .before .before .before .before .before .before .before .before .before .before .before .before .before .before .before .before .before .before .before .before .before .before in
+    let done = c .before .before .before .before .before .before .before .before .before .before .before .before .before in
+    let end = done .before .before .before .before .before .before .before .before .before .before in
     omega (arith, end .before .end .ensures, end .if1 .left)
 
 loop-again : tie.Need-loop-again Inv-loop μ-loop
 loop-again c =
     let done = c .before .before .before .before .before .before .before .before .before .before .before .before .before in
     let end = done .before .before .before .before .before .before .before .before .before .before in
-    let inv = end .before .before .before .loop .inv in
-    (
-        omega (arith, end .if1 .left),
-        done .one .kept .1 .1 .1 .0 ∙ inv .1,
-        done .one .kept .1 .1 .1 .1 .0 ∙ inv .2,
-        done .one .kept .1 .1 .1 .1 .1 .0 ∙ inv .3,
+    let inv = end .before .before .before .loop .inv in (
+      omega (arith, end .if1 .left),
+      done .one .kept .1 .1 .1 .0 ∙ inv .1,
+      done .one .kept .1 .1 .1 .1 .0 ∙ inv .2,
+      done .one .kept .1 .1 .1 .1 .1 .0 ∙ inv .3,
     )
 
 pub all-spec : {M : Type 1} → statement M
