@@ -8,7 +8,8 @@ use Rattle.tick_cases.proofs.all.Statement.{statement}
 use Rattle.tick_cases.proofs.all.Tie as tie
 
 abbrev Inv-loop : tie.InvT-loop
-Inv-loop text store₀ lens₀ rows₀ b₀ at₀ store lens rows b at = (at ≤ length text) × (length store ≡ 1048576) × (length lens ≡ 258) × (length rows ≡ 16388)
+Inv-loop text store₀ lens₀ rows₀ b₀ at₀ store lens rows b at =
+    (at ≤ length text) × (length store ≡ 1048576) × (length lens ≡ 258) × (length rows ≡ 16388)
 
 abbrev μ-loop : tie.MeasureT-loop
 μ-loop text store₀ lens₀ rows₀ b₀ at₀ store lens rows b at = length text - at
