@@ -1,0 +1,199 @@
+// What a line does, by its first letter: small letters call the scheduler and the store, capitals set and show what they are lent.
+use crate::bench;
+use crate::bench::Bench;
+use crate::line;
+use crate::show;
+use crate::state;
+use record::Record;
+use schedule::Setup;
+ghost use Prim.Native.Nat.{_≤_};
+
+pub fn one(
+    b: Bench,
+    k: u8,
+    text: &[u8],
+    store: &mut [u8],
+    lens: &mut [u16],
+    rows: &mut [u64],
+    log: &mut [u8],
+) -> Bench {
+    let setup = b.setup;
+    let rec = b.rec;
+    show::say(text);
+    if k == b't' {
+        return bench::with_record(b, tick(b, text, store, lens, rows, log));
+    }
+    if k == b'S' {
+        return bench::set_up(rec, text);
+    }
+    if k == b'L' {
+        return bench::lend(setup, rec, text);
+    }
+    if k == b'K' {
+        return bench::with_record(b, bench::record(text));
+    }
+    if k == b'N' {
+        state::set_length(text, lens);
+        return b;
+    }
+    if k == b'W' {
+        state::set_word(text, rows);
+        return b;
+    }
+    if k == b'V' {
+        state::view(text, store, lens, rows);
+        return b;
+    }
+    bench::with_record(b, change(setup, rec, k, text, store, lens, rows))
+}
+
+// The tick on what is lent: keep or delete, the log's length, the limit.
+fn tick(
+    b: Bench,
+    text: &[u8],
+    store: &mut [u8],
+    lens: &mut [u16],
+    rows: &mut [u64],
+    log: &mut [u8],
+) -> Record {
+    let s = bench::least(b.room, store.len());
+    let l = bench::least(b.lens, lens.len());
+    let r = bench::least(b.rows, rows.len());
+    let n = bench::least(line::index(text, 0), log.len());
+    let setup = b.setup;
+    let rec = b.rec;
+    let t = tick::tick(
+        setup,
+        rec,
+        &mut store[0..s],
+        &mut lens[0..l],
+        &mut rows[0..r],
+        &mut log[0..n],
+        line::index(text, 1),
+        line::byte(text, 5) == b'd',
+    );
+    let a = t.answer;
+    show::ticked(a);
+    t.next
+}
+
+// The other calls. They are given whole tables, and are not written out: what they do is seen at the next tick.
+fn change(
+    setup: Setup,
+    rec: Record,
+    k: u8,
+    text: &[u8],
+    store: &mut [u8],
+    lens: &mut [u16],
+    rows: &mut [u64],
+) -> Record {
+    if k == b's' {
+        let c = schedule::fresh_start(
+            setup,
+            rec,
+            store,
+            lens,
+            rows,
+            line::time(text, 0),
+            line::margin(b"0 0", 0),
+        );
+        return c.next;
+    }
+    if k == b'a' {
+        add(setup.store, text, store, lens);
+        return rec;
+    }
+    if k == b'v' {
+        store::delete(setup.store, store, lens, line::number(text, 0));
+        return rec;
+    }
+    if k == b'i' {
+        return insert(setup, rec, text, store, lens, rows);
+    }
+    if k == b'p' {
+        let p = insertions::insert_unwrapped_tc(
+            setup,
+            rec,
+            store,
+            lens,
+            rows,
+            line::time(text, 0),
+            b"\x18\x02\xC0\x11\x00\x06\x2F\x11\x01\x00\x00\xDD\xB5",
+        );
+        return p.next;
+    }
+    mark(rec, k, text)
+}
+
+fn mark(rec: Record, k: u8, text: &[u8]) -> Record {
+    if k == b'c' {
+        let c = rec.clocked(line::time(text, 0));
+        return c.next;
+    }
+    if k == b'e' {
+        let c = rec.marked(true);
+        return c.next;
+    }
+    if k == b'd' {
+        let c = rec.marked(false);
+        return c.next;
+    }
+    rec
+}
+
+// Adds a number of packets of a length. The first begins with a given byte, each later one with the next; so do a packet's bytes go on.
+fn add(setup: store::Setup, text: &[u8], store: &mut [u8], lens: &mut [u16]) {
+    let count = line::index(text, 0);
+    let n = bench::least(line::index(text, 1), 4096);
+    let mut v = line::number(text, 2);
+    let mut i: usize = 0;
+    while i < count {
+        put(setup, store, lens, n, v);
+        v = std::num::wrapping_add_u64(v, 1);
+        i += 1;
+    }
+}
+
+fn put(setup: store::Setup, store: &mut [u8], lens: &mut [u16], n: usize, v: u64)
+    requires { ⌜ n ≤ 4096 ⌝ }
+{
+    let mut packet = [0u8; 4096];
+    state::count_up(&mut packet, v);
+    store::add(setup, store, lens, &packet[0..n]);
+}
+
+// Inserts a number of entries: their time, then request ID and address of the first, then by how much each rises.
+fn insert(
+    setup: Setup,
+    rec: Record,
+    text: &[u8],
+    store: &[u8],
+    lens: &[u16],
+    rows: &mut [u64],
+) -> Record {
+    let count = line::index(text, 0);
+    let t = line::time(text, 1);
+    let id_step = line::number(text, 5);
+    let addr_step = line::number(text, 6);
+    let mut id = line::number(text, 3);
+    let mut addr = line::number(text, 4);
+    let mut r = rec;
+    let mut i: usize = 0;
+    while i < count {
+        let c = insertions::insert_unwrapped_and_stored_tc(
+            setup,
+            r,
+            store,
+            lens,
+            rows,
+            t,
+            id,
+            addr,
+        );
+        r = c.next;
+        id = std::num::wrapping_add_u64(id, id_step);
+        addr = std::num::wrapping_add_u64(addr, addr_step);
+        i += 1;
+    }
+    r
+}
