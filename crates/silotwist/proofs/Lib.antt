@@ -1,0 +1,7 @@
+-- Laws of the C face.
+pub mod Told
+pub mod Narrow
+pub mod Signed
+pub mod Standing
+pub mod Answering
+pub mod StoreCalls

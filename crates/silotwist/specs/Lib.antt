@@ -1,0 +1,5 @@
+-- The C face (include/silotwist.h): what a reader must believe. Read it in this order, beside the header.
+pub mod Reading
+pub mod Face
+pub mod StoreFace
+pub mod Inside
