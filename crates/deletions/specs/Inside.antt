@@ -1,0 +1,73 @@
+-- What the contracts of private functions cite. A reader need not believe this: the public calls' promises do not name it.
+use Prim.Native.Nat.{_+_, _-_, ℕ}
+use lib.ListN.{drop, take}
+use mathlib.Core.Bool.{Bool}
+use mathlib.Core.List.{List, []}
+use mathlib.Core.Path.{_≡_}
+use Rattle.record.specs.Refusals.{paper}
+use Rattle.record.specs.declared.Record.{Record}
+use Rattle.rules.specs.Papers.{Outcome, done, refused}
+use Rattle.schedule.specs.State.{State}
+use Rattle.store.specs.Pools.{Pool}
+use Rattle.store.specs.View.{Leaves, view}
+use Rattle.store.specs.declared.Deleted.{Deleted}
+use Rattle.store.specs.declared.Deleted.the-variants as D
+use Rattle.store.specs.declared.Setup.{Setup as StoreSetup}
+use Rattle.table.specs.Edits.{without}
+use Rattle.table.specs.Entries.{Entry}
+use Rattle.table.specs.Windows.{EndsInRange}
+use Rattle.table.specs.declared.Part.{Part}
+use Rattle.table.specs.declared.TimeWindow.{TimeWindow}
+use Rattle.deletions.specs.Answers.{lastPaper}
+use Rattle.deletions.specs.Deleting.{Swept, clearIn, sweep, unswept}
+use Rattle.deletions.specs.Windowing.{windowed}
+use Rattle.deletions.specs.declared.FreeAnswer.{FreeAnswer}
+use Rattle.deletions.specs.declared.FreeAnswer.the-variants as F
+use Rattle.deletions.specs.declared.Last.the-variants as La
+use Rattle.deletions.specs.declared.Tally.{Tally}
+use Rattle.deletions.specs.declared.Window.{Window}
+use Rattle.deletions.specs.declared.windows.Opened.{Opened}
+use Rattle.deletions.specs.declared.windows.Opened.the-variants as O
+
+-- the window in moments, or which of 4 and 15 every call with it is given
+unfoldable pub openedAs : Opened → Outcome TimeWindow
+openedAs (O.At w) = done [] w
+openedAs (O.Refused e) = refused (paper e)
+
+abbrev pub Ends : Opened → Type 0
+Ends (O.At w) = EndsInRange w
+Ends (O.Refused e) = Unit {0}
+
+pub record Opens (w : Window) (r : Opened) : Type 0 where
+  pub same : openedAs r ≡ windowed w (λ x. done [] x)
+  pub ends : Ends r
+
+-- one packet more, in the code's tally
+abbrev pub counted : Tally → Deleted → Tally
+counted t D.Done = record { deleted = t .deleted + 1; missing = t .missing; last = t .last }
+counted t (D.Refused e) = record { deleted = t .deleted; missing = t .missing + 1; last = La.Missing e }
+
+-- what a tally says, over the subpools that are left
+abbrev pub tallied : Tally → List Pool → Swept
+tallied t ps = record { deleted = t .deleted; missing = t .missing; last = lastPaper (t .last); pools = ps }
+
+-- the packets of the entries es are deleted, and t tells what became of them
+pub record Sweeps (su : StoreSetup) (st le : List ℕ) (es : List Entry) (t : Tally) (st′ le′ : List ℕ) : Type 0 where
+  pub told : tallied t (view su st′ le′) ≡ sweep es (unswept (view su st le))
+  pub lists : Leaves su st le (sweep es (unswept (view su st le)) .pools) st′ le′
+
+-- the entries of a range of rows go, with their packets; enabled or disabled afterwards
+abbrev pub enabledAs : Bool → State → State
+enabledAs b s = record { pools = s .pools; entries = s .entries; clock = s .clock; margin = s .margin; enabled = b }
+
+unfoldable pub clearPart : Part → Bool → State → Outcome State
+clearPart p b s =
+    clearIn (take (p .number) (drop (p .first) (s .entries))) (without (p .first) (p .number) (s .entries)) (enabledAs b s)
+
+abbrev pub leftOf : Record → ℕ → Bool → Record
+leftOf r n b = record { count = r .count - n; clock = r .clock; margin = r .margin; enabled = b }
+
+-- what the store's answer to a deletion becomes
+abbrev pub freedOf : Deleted → FreeAnswer
+freedOf D.Done = F.Deleted
+freedOf (D.Refused e) = F.Missing e

@@ -1,0 +1,5 @@
+-- The rules of windows and deletions.
+pub mod Windowing
+pub mod Deleting
+pub mod Answers
+pub mod Inside

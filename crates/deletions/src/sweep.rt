@@ -1,0 +1,63 @@
+// The packets of a range of rows deleted from the store, in schedule order: how many there were, and why the others were missing.
+use crate::Last;
+use crate::Tally;
+use store::Deleted;
+use table::Part;
+ghost use mathlib.Core.Path.{_≡_};
+ghost use Prim.Native.Nat.{_+_, _<_, _≤_};
+ghost use lib.ListN.{drop, take};
+ghost use Rattle.store.specs.Judge.{Sound as StoreSound};
+ghost use Rattle.table.specs.Entries.{unpack};
+ghost use Rattle.table.specs.Order.{Sound as TableSound, mostEntries};
+ghost use Rattle.deletions.specs.Inside.{Sweeps, counted};
+
+pub fn sweep(
+    setup: store::Setup,
+    store: &mut [u8],
+    lens: &mut [u16],
+    rows: &[u64],
+    count: usize,
+    part: Part,
+) -> Tally
+    requires { ⌜ StoreSound setup (now store) (now lens) ⌝ }
+    requires { ⌜ TableSound (now rows) count ⌝ }
+    requires { ⌜ part .first + part .number ≤ count ⌝ }
+    ensures { λ t. ⌜ Sweeps setup (now (store .entry)) (now (lens .entry))
+        (take (part .number) (drop (part .first) (unpack count (now (rows .entry)))))
+        t (now (store .exit)) (now (lens .exit)) ⌝ }
+{
+    let end = part.first + part.number;
+    let mut t = Tally {
+        deleted: 0,
+        missing: 0,
+        last: Last::None,
+    };
+    let mut i = part.first;
+    while i < end {
+        let info = table::row::tc_info(rows, count, i);
+        let d = store::judged::delete(setup, store, lens, info.addr);
+        t = one_more(t, d);
+        i += 1;
+    }
+    t
+}
+
+// One packet more.
+fn one_more(t: Tally, d: Deleted) -> Tally
+    requires { ⌜ t .deleted + t .missing < mostEntries ⌝ }
+    ensures { λ r. ⌜ r ≡ counted t d ⌝ }
+{
+    let last = t.last;
+    match d {
+        Deleted::Done => Tally {
+            deleted: t.deleted + 1,
+            missing: t.missing,
+            last: last,
+        },
+        Deleted::Refused(e) => Tally {
+            deleted: t.deleted,
+            missing: t.missing + 1,
+            last: Last::Missing(e),
+        },
+    }
+}

@@ -1,0 +1,77 @@
+-- What inserting one readable command comes to, in the form of the promise.
+-- Assumes nothing.
+use Prim.Native.Nat.{ℕ}
+use mathlib.Core.Bool.{false, true}
+use mathlib.Core.List.{List, []}
+use mathlib.Core.Path.{_≡_, _∙_, ap, sym}
+use Rattle.packet.specs.Packet.{idOf, idWord, readOf}
+use Rattle.packet.specs.declared.Fault.{Fault}
+use Rattle.packet.specs.declared.Header.{Header}
+use Rattle.packet.specs.declared.Reading.the-variants.{Packet, Unreadable}
+use Rattle.record.specs.Refusals.{paper}
+use Rattle.record.specs.declared.Record.{Record}
+use Rattle.record.specs.declared.ScheduleRefusal.{ScheduleRefusal}
+use Rattle.record.specs.declared.ScheduleRefusal.the-variants.{BadTime, NestedScheduledTc, TcUnreadable}
+use Rattle.rules.specs.Papers.{Outcome, Paper, no, refused}
+use Rattle.rules.specs.Tests.{unless}
+use Rattle.store.specs.Calls.{addIn}
+use Rattle.time.specs.Time.{inRange}
+use Rattle.store.specs.View.{view}
+use Rattle.time.specs.declared.UnixTime.{UnixTime}
+use Rattle.insertions.specs.Inserting.{activity, entered, insertTc, insertUnwrappedIn, nested, timed}
+use Rattle.insertions.specs.Inside.{FirstRefusal, Gate}
+use Rattle.schedule.specs.Promise.{Does}
+use Rattle.schedule.specs.State.{State, stateOf, withPools}
+use Rattle.schedule.specs.declared.Setup.{Setup}
+use Rattle.schedule.specs.declared.Verdict.{Verdict}
+use Rattle.schedule.specs.declared.Verdict.the-variants as Ve
+use Rattle.insertions.proofs.Adding.{blocked, nested-refused, plain-enters}
+use Rattle.insertions.proofs.Entering.{gate-refused}
+use Rattle.schedule.proofs.Promises.{does-as, does-refused, record-same}
+
+module _ (su : Setup) (r : Record) (st le ro : List ℕ) (t : UnixTime) (tc : List ℕ) where
+  pub does-unreadable : (f : Fault) → readOf 2 tc ≡ Unreadable f → Does su r st le ro (insertTc su t tc) (paper TcUnreadable) r st le ro
+  unfolding activity paper
+  does-unreadable f q = does-refused su r st le ro (insertTc su t tc) (no 9 []) (rw q)
+
+  pub does-readable : (h : Header) (p : Paper) (r′ : Record) (st′ le′ ro′ : List ℕ) → readOf 2 tc ≡ Packet h
+      → Does su r st le ro (λ s. activity su t tc s (Packet h)) p r′ st′ le′ ro′ → Does su r st le ro (insertTc su t tc) p r′ st′ le′ ro′
+  does-readable h p r′ st′ le′ ro′ q d =
+      does-as su r st le ro (λ s. activity su t tc s (Packet h)) (insertTc su t tc) p r′ st′ le′ ro′
+      (ap (activity su t tc (stateOf su r st le ro)) (sym q)) d
+
+  -- the time is judged first
+  pub unwrapped-bad : inRange t ≡ false → Does su r st le ro (insertUnwrappedIn su t tc) (paper BadTime) r st le ro
+  unfolding insertUnwrappedIn timed unless paper
+  unwrapped-bad e = does-refused su r st le ro (insertUnwrappedIn su t tc) (no 4 []) (rw e)
+
+  pub unwrapped-timed : (p : Paper) (r′ : Record) (st′ le′ ro′ : List ℕ) → inRange t ≡ true
+      → Does su r st le ro (insertTc su t tc) p r′ st′ le′ ro′ → Does su r st le ro (insertUnwrappedIn su t tc) p r′ st′ le′ ro′
+  unfolding insertUnwrappedIn timed unless
+  unwrapped-timed p r′ st′ le′ ro′ e d =
+      does-as su r st le ro (insertTc su t tc) (insertUnwrappedIn su t tc) p r′ st′ le′ ro′ (rw e) d
+
+  module _ (h : Header) where
+    pub does-nested : nested h ≡ true → Does su r st le ro (λ s. activity su t tc s (Packet h)) (paper NestedScheduledTc) r st le ro
+    unfolding paper
+    does-nested e = does-refused su r st le ro _ (no 10 []) (nested-refused su t tc (stateOf su r st le ro) h e)
+
+    module _ (e : nested h ≡ false) where
+      pub does-blocked : (v : Verdict) (own x : ScheduleRefusal) → Gate su r t v → v ≡ Ve.Refused own
+          → FirstRefusal (addIn (su .store .spill) (view (su .store) st le) tc) own x
+          → Does su r st le ro (λ s. activity su t tc s (Packet h)) (paper x) r st le ro
+      unfolding stateOf
+      does-blocked v own x g q f =
+          does-refused su r st le ro _ (paper x)
+          (plain-enters su t tc (stateOf su r st le ro) h e
+          ∙ blocked su t (idWord (idOf h)) (stateOf su r st le ro) _ own x f
+          (λ a vs ps. gate-refused su r t v own g q (idWord (idOf h)) a vs (withPools ps (stateOf su r st le ro)) (record-same su r st le ro)))
+
+      pub does-plain : (id : ℕ) (p : Paper) (r′ : Record) (st′ le′ ro′ : List ℕ) → id ≡ idWord (idOf h)
+          → Does su r st le ro (λ s. entered su t id s (addIn (su .store .spill) (s .pools) tc)) p r′ st′ le′ ro′
+          → Does su r st le ro (λ s. activity su t tc s (Packet h)) p r′ st′ le′ ro′
+      does-plain id p r′ st′ le′ ro′ q d =
+          does-as su r st le ro _ (λ s. activity su t tc s (Packet h)) p r′ st′ le′ ro′
+          (ap (λ (k : ℕ). entered su t k (stateOf su r st le ro) (addIn (su .store .spill) (stateOf su r st le ro .pools) tc)) q
+          ∙ sym (plain-enters su t tc (stateOf su r st le ro) h e))
+          d

@@ -1,0 +1,129 @@
+-- What the store said of a packet decides what its insertion comes to.
+-- Assumes nothing.
+use Prim.Native.Nat.{_+_, _<_, ℕ}
+use lib.ListN.{getD, length}
+use mathlib.Core.Bool.{Bool, false, not, true}
+use mathlib.Core.List.{List, [], _∷_}
+use mathlib.Core.Path.{_≡_, _∙_, ap, refl, sym}
+use native.Mathlib.Omega.{arith}
+use Rattle.packet.specs.Packet.{idOf, idWord}
+use Rattle.packet.specs.declared.Header.{Header}
+use Rattle.packet.specs.declared.Reading.the-variants.{Packet, Unreadable}
+use Rattle.record.specs.Refusals.{paper}
+use Rattle.record.specs.declared.Record.{Record}
+use Rattle.record.specs.declared.ScheduleRefusal.{ScheduleRefusal}
+use Rattle.record.specs.declared.ScheduleRefusal.the-variants.{Store}
+use Rattle.rules.specs.Papers.{Outcome, Paper, after, done, no, refused, says}
+use Rattle.rules.specs.Tests.{unless}
+use Rattle.store.proofs.Numbers.{not-done}
+use Rattle.store.specs.Calls.{addIn, place}
+use Rattle.store.specs.Pools.{Choice, Pool, allTaken, choose, into, tooLarge}
+use Rattle.store.specs.Refusals.{paper as storePaper}
+use Rattle.store.specs.View.{Leaves, view}
+use Rattle.store.specs.declared.StoreRefusal.{StoreRefusal}
+use Rattle.table.proofs.Rows.{length-unpack}
+use Rattle.table.proofs.Stays.{length-insertSorted}
+use Rattle.table.specs.Edits.{afterInsert, insertSorted}
+use Rattle.table.specs.Entries.{entryOf, unpack}
+use Rattle.time.specs.Time.{inTimeMargin, momentOf}
+use Rattle.time.specs.declared.UnixTime.{UnixTime}
+use Rattle.insertions.specs.Answers.{insertedPaper}
+use Rattle.insertions.specs.Inserting.{activity, enter, entered, nested}
+use Rattle.insertions.specs.Inside.{FirstRefusal}
+use Rattle.schedule.specs.State.{State, recordOf, stateOf, withCount, withEntries, withPools}
+use Rattle.schedule.specs.Promise.{Does}
+use Rattle.insertions.specs.declared.InsertAnswer.the-variants.{Inserted, Refused}
+use Rattle.schedule.specs.declared.Setup.{Setup}
+use Rattle.insertions.proofs.Gates.{enters}
+use Rattle.schedule.proofs.Outcomes.{no-answer, refused-number}
+use Rattle.schedule.proofs.Promises.{does-done}
+
+-- a refusal of `add` has a number
+add-numbered : (spill : Bool) (ps : List Pool) (d : List ℕ) (p : Paper) → addIn spill ps d ≡ refused p → p .number ≡ 0 → ⊥
+unfolding addIn place
+add-numbered spill ps d p = go (choose spill ps (length d))
+  where
+    go : (c : Choice) → place ps d c ≡ refused p → p .number ≡ 0 → ⊥
+    go tooLarge e z = omega (arith, refused-number _ _ e)
+    go (allTaken k) e z = omega (arith, refused-number _ _ e)
+    go (into k i) e z = no-answer _ _ _ e
+
+-- an outcome, by what it says
+says-refused : {A : Type 0} (o : Outcome A) (x : StoreRefusal) → storePaper x ≡ says o → o ≡ refused (storePaper x)
+unfolding says
+says-refused (refused p) x q = ap refused (sym q)
+says-refused (done vs y) x q = absurd (not-done x vs q)
+
+says-done : (o : Outcome (List Pool)) (a : ℕ) → no 0 (a ∷ []) ≡ says o → ((p : Paper) → o ≡ refused p → p .number ≡ 0 → ⊥)
+    → o ≡ done (a ∷ []) (after o [] (λ ps. ps))
+unfolding says after
+says-done (refused p) a q h = absurd (h p refl (sym (ap (λ (x : Paper). x .number) q)))
+says-done (done vs ps) a q h = ap (λ (l : List ℕ). done l ps) (sym (ap (λ (x : Paper). x .values) q))
+
+-- the first refusal of a command that 13 or 14 stops
+pub first-store : (o : Outcome (List Pool)) (own : ScheduleRefusal) (x : StoreRefusal) → storePaper x ≡ says o → FirstRefusal o own (Store x)
+unfolding says paper
+first-store (refused p) own x q = q
+first-store (done vs ps) own x q = absurd (not-done x vs q)
+
+first-own-by : (o : Outcome (List Pool)) (own : ScheduleRefusal) (a : ℕ) → no 0 (a ∷ []) ≡ says o
+    → ((p : Paper) → o ≡ refused p → p .number ≡ 0 → ⊥) → FirstRefusal o own own
+unfolding says
+first-own-by (refused p) own a q h = absurd (h p refl (sym (ap (λ (x : Paper). x .number) q)))
+first-own-by (done vs ps) own a q h = refl
+
+pub first-own : (spill : Bool) (ps : List Pool) (d : List ℕ) (own : ScheduleRefusal) (a : ℕ) → no 0 (a ∷ []) ≡ says (addIn spill ps d)
+    → FirstRefusal (addIn spill ps d) own own
+first-own spill ps d own a q = first-own-by (addIn spill ps d) own a q (add-numbered spill ps d)
+
+pub blocked : (su : Setup) (t : UnixTime) (id : ℕ) (s : State) (o : Outcome (List Pool)) (own x : ScheduleRefusal) → FirstRefusal o own x
+    → ((a : ℕ) (vs : List ℕ) (ps : List Pool) → enter su t id a vs (withPools ps s) ≡ refused (paper own))
+    → entered su t id s o ≡ refused (paper x)
+unfolding entered
+blocked su t id s (refused p) own x f g = ap refused (sym f)
+blocked su t id s (done vs ps) own x f g = g (getD vs 0 0) (getD vs 0 0 ∷ id ∷ []) ps ∙ ap (λ (e : ScheduleRefusal). refused (paper e)) (sym f)
+
+-- a readable command, by whether it is itself an insertion
+module _ (su : Setup) (t : UnixTime) (tc : List ℕ) (s : State) (h : Header) where
+  pub nested-refused : nested h ≡ true → activity su t tc s (Packet h) ≡ refused (no 10 [])
+  unfolding activity unless
+  nested-refused e = rw e
+
+  pub plain-enters : nested h ≡ false
+      → activity su t tc s (Packet h) ≡ entered su t (idWord (idOf h)) s (addIn (su .store .spill) (s .pools) tc)
+  unfolding activity unless
+  plain-enters e = rw e
+
+-- stored and entered
+module _ (su : Setup) (r : Record) (st le ro : List ℕ) (t : UnixTime) (tc : List ℕ) (id : ℕ) (st′ le′ : List ℕ) where
+  out : Outcome (List Pool)
+  out = addIn (su .store .spill) (view (su .store) st le) tc
+
+  call : State → Outcome State
+  call s = entered su t id s (addIn (su .store .spill) (s .pools) tc)
+
+  module _ (l : Leaves (su .store) st le (after (addIn (su .store .spill) (view (su .store) st le) tc) (view (su .store) st le) (λ ps. ps)) st′ le′) where
+    pub enter-refused : (x : StoreRefusal) → storePaper x ≡ says (addIn (su .store .spill) (view (su .store) st le) tc)
+        → Does su r st le ro (λ s. entered su t id s (addIn (su .store .spill) (s .pools) tc)) (paper (Store x)) r st′ le′ ro
+    unfolding entered stateOf says after paper
+    enter-refused x e =
+        let q = says-refused (addIn (su .store .spill) (view (su .store) st le) tc) x e in
+        record { answer = rw q; next = rw q; lists = rw q (rw q at l); rows = rw q }
+
+    pub enter-done : (a : ℕ) (n : Record) (ro′ : List ℕ) → no 0 (a ∷ []) ≡ says (addIn (su .store .spill) (view (su .store) st le) tc)
+        → inTimeMargin (r .clock) (r .margin) t ≡ false → r .count < su .entries → n ≡ withCount (r .count + 1) r
+        → ro′ ≡ afterInsert ro (r .count) (entryOf (momentOf t) id a)
+        → Does su r st le ro (λ s. entered su t id s (addIn (su .store .spill) (s .pools) tc)) (no 0 (a ∷ id ∷ [])) n st′ le′ ro′
+    unfolding entered stateOf after
+    enter-done a n ro′ e m f p q =
+        let o = addIn (su .store .spill) (view (su .store) st le) tc in
+        let d : o ≡ done (a ∷ []) (after o [] (λ ps. ps)) = says-done o a e (add-numbered _ _ tc) in
+        let s = withPools (after o [] (λ ps. ps)) (stateOf su r st le ro) in
+        let h : length (unpack (r .count) ro) < su .entries = omega (arith, length-unpack (r .count) ro) in
+        let x : recordOf (withEntries (insertSorted (entryOf (momentOf t) id a) (unpack (r .count) ro)) s) ≡ withCount (r .count + 1) r =
+        ap (λ (k : ℕ). withCount k r)
+        (length-insertSorted (entryOf (momentOf t) id a) (unpack (r .count) ro) ∙ ap (λ (k : ℕ). k + 1) (length-unpack (r .count) ro)) in
+        rw (p ∙ sym x)
+        (does-done su r st le ro (λ s. entered su t id s (addIn (su .store .spill) (s .pools) tc)) (a ∷ id ∷ []) _ st′ le′ ro′
+        (ap (entered su t id (stateOf su r st le ro)) d ∙ enters su t id a (a ∷ id ∷ []) s m h)
+        (rw d at l) q)

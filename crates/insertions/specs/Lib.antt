@@ -1,0 +1,4 @@
+-- The insertions' rules.
+pub mod Inserting
+pub mod Answers
+pub mod Inside

@@ -1,0 +1,174 @@
+// The insertions by bytes, for a caller that has judged: a command with its release time, and a wrapped one.
+use crate::InsertAnswer;
+use crate::Inserted;
+use crate::gate;
+use packet::Header;
+use packet::Reading;
+use record::Record;
+use record::ScheduleRefusal;
+use schedule::Setup;
+use schedule::Verdict;
+use schedule::with_count;
+use store::Added;
+use table::TcInfo;
+use time::UnixTime;
+ghost use mathlib.Core.Path.{_≡_};
+ghost use mathlib.Core.Bool.{false};
+ghost use Prim.Native.Nat.{_<_};
+ghost use Rattle.packet.specs.declared.Reading.the-variants.{Packet};
+ghost use Rattle.store.specs.Calls.{addIn};
+ghost use Rattle.store.specs.Judge.{Sound as StoreSound};
+ghost use Rattle.store.specs.View.{view};
+ghost use Rattle.time.specs.Time.{InRange, inTimeMargin};
+ghost use Rattle.insertions.specs.Answers.{insertedPaper};
+ghost use Rattle.insertions.specs.Inserting.{activity, entered, insertTc, insertUnwrappedIn, nested as nestedOf};
+ghost use Rattle.insertions.specs.Inside.{FirstRefusal};
+ghost use Rattle.schedule.specs.Judge.{Sound};
+ghost use Rattle.schedule.specs.Promise.{Does};
+
+pub fn insert_unwrapped_tc(
+    setup: Setup,
+    rec: Record,
+    store: &mut [u8],
+    lens: &mut [u16],
+    rows: &mut [u64],
+    release: UnixTime,
+    tc: &[u8],
+) -> Inserted
+    requires { ⌜ Sound setup rec (now store) (now lens) (now rows) ⌝ }
+    ensures { λ c. ⌜ Does setup rec (now (store .entry)) (now (lens .entry)) (now (rows .entry))
+        (insertUnwrappedIn setup release (now (tc .entry)))
+        (insertedPaper (c .answer)) (c .next) (now (store .exit)) (now (lens .exit)) (now (rows .exit)) ⌝ }
+{
+    let ok = release.in_range();
+    if !ok {
+        return refuse(rec, ScheduleRefusal::BadTime);
+    }
+    insert_tc(setup, rec, store, lens, rows, release, tc)
+}
+
+// A command of a time in range.
+pub fn insert_tc(
+    setup: Setup,
+    rec: Record,
+    store: &mut [u8],
+    lens: &mut [u16],
+    rows: &mut [u64],
+    release: UnixTime,
+    tc: &[u8],
+) -> Inserted
+    requires { ⌜ Sound setup rec (now store) (now lens) (now rows) ⌝ }
+    requires { ⌜ InRange release ⌝ }
+    ensures { λ c. ⌜ Does setup rec (now (store .entry)) (now (lens .entry)) (now (rows .entry))
+        (insertTc setup release (now (tc .entry)))
+        (insertedPaper (c .answer)) (c .next) (now (store .exit)) (now (lens .exit)) (now (rows .exit)) ⌝ }
+{
+    let reading = packet::read(tc);
+    match reading {
+        Reading::Unreadable(_) => refuse(rec, ScheduleRefusal::TcUnreadable),
+        Reading::Packet(h) => insert_readable(setup, rec, store, lens, rows, release, tc, h),
+    }
+}
+
+fn insert_readable(
+    setup: Setup,
+    rec: Record,
+    store: &mut [u8],
+    lens: &mut [u16],
+    rows: &mut [u64],
+    release: UnixTime,
+    tc: &[u8],
+    h: Header,
+) -> Inserted
+    requires { ⌜ Sound setup rec (now store) (now lens) (now rows) ⌝ }
+    requires { ⌜ InRange release ⌝ }
+    ensures { λ c. ⌜ Does setup rec (now (store .entry)) (now (lens .entry)) (now (rows .entry))
+        (λ s. activity setup release (now (tc .entry)) s (Packet h))
+        (insertedPaper (c .answer)) (c .next) (now (store .exit)) (now (lens .exit)) (now (rows .exit)) ⌝ }
+{
+    let inner = nested(h);
+    if inner {
+        return refuse(rec, ScheduleRefusal::NestedScheduledTc);
+    }
+    let id = h.request_id().as_u64();
+    let g = gate::gate(setup, rec, release);
+    match g {
+        Verdict::Refused(e) => {
+            let s = setup.store;
+            refuse(rec, first_refusal(s, store, lens, tc, e))
+        }
+        Verdict::Fine => store_and_enter(setup, rec, store, lens, rows, release, tc, id),
+    }
+}
+
+// The store's 11 and 12 come before the schedule's 13 and 14.
+fn first_refusal(
+    setup: store::Setup,
+    store: &[u8],
+    lens: &[u16],
+    tc: &[u8],
+    own: ScheduleRefusal,
+) -> ScheduleRefusal
+    requires { ⌜ StoreSound setup (now store) (now lens) ⌝ }
+    ensures { λ r. ⌜ FirstRefusal (addIn (setup .spill) (view setup (now (store .entry)) (now (lens .entry))) (now (tc .entry))) own r ⌝ }
+{
+    let a = store::judged::would_add(setup, store, lens, tc);
+    match a {
+        Added::Refused(x) => ScheduleRefusal::Store(x),
+        Added::At(_) => own,
+    }
+}
+
+// Neither 13 nor 14: the packet goes to the store, and its entry to the schedule.
+fn store_and_enter(
+    setup: Setup,
+    rec: Record,
+    store: &mut [u8],
+    lens: &mut [u16],
+    rows: &mut [u64],
+    release: UnixTime,
+    tc: &[u8],
+    id: u64,
+) -> Inserted
+    requires { ⌜ Sound setup rec (now store) (now lens) (now rows) ⌝ }
+    requires { ⌜ InRange release ⌝ }
+    requires { ⌜ (inTimeMargin (rec .clock) (rec .margin) release ≡ false) × (rec .count < setup .entries) ⌝ }
+    ensures { λ c. ⌜ Does setup rec (now (store .entry)) (now (lens .entry)) (now (rows .entry))
+        (λ s. entered setup release id s (addIn (setup .store .spill) (s .pools) (now (tc .entry))))
+        (insertedPaper (c .answer)) (c .next) (now (store .exit)) (now (lens .exit)) (now (rows .exit)) ⌝ }
+{
+    let s = setup.store;
+    let a = store::judged::add(s, store, lens, tc);
+    match a {
+        Added::Refused(x) => refuse(rec, ScheduleRefusal::Store(x)),
+        Added::At(addr) => {
+            let n = rec.count;
+            table::edit::insert(rows, n, release.to_moment(), id, addr);
+            Inserted {
+                next: with_count(rec, n + 1),
+                answer: InsertAnswer::Inserted(TcInfo {
+                    request_id: id,
+                    addr: addr,
+                }),
+            }
+        }
+    }
+}
+
+fn nested(h: Header) -> bool
+    ensures { λ r. ⌜ r ≡ nestedOf h ⌝ }
+{
+    if h.service == 11 {
+        return h.subservice == 4;
+    }
+    false
+}
+
+pub fn refuse(rec: Record, e: ScheduleRefusal) -> Inserted
+    ensures { λ c. ⌜ (c .next ≡ rec) × (c .answer ≡ InsertAnswer.Refused e) ⌝ }
+{
+    Inserted {
+        next: rec,
+        answer: InsertAnswer::Refused(e),
+    }
+}

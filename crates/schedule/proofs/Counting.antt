@@ -1,0 +1,21 @@
+-- What a count answers, where none of 1 to 3 is given.
+-- Assumes nothing.
+use Prim.Native.Nat.{ℕ}
+use mathlib.Core.List.{List, [], _∷_}
+use mathlib.Core.Path.{_≡_, _∙_, ap, sym}
+use Rattle.record.specs.declared.Record.{Record}
+use Rattle.rules.specs.Papers.{no, says}
+use Rattle.table.proofs.Rows.{length-unpack}
+use Rattle.schedule.specs.Answers.{countedPaper}
+use Rattle.schedule.specs.Judge.{Sound, judging}
+use Rattle.schedule.specs.State.{stateOf}
+use Rattle.schedule.specs.Counting.{countIn}
+use Rattle.schedule.specs.declared.Counted.the-variants.{Count}
+use Rattle.schedule.specs.declared.Setup.{Setup}
+use Rattle.schedule.proofs.Promises.{judging-fine}
+
+pub counts : (su : Setup) (r : Record) (st le ro : List ℕ) → Sound su r st le ro
+    → countedPaper (Count (r .count)) ≡ says (judging su r st le ro countIn)
+unfolding countedPaper says countIn stateOf
+counts su r st le ro s =
+    rw (judging-fine su r st le ro countIn s) (ap (λ (n : ℕ). no 0 (n ∷ [])) (sym (length-unpack (r .count) ro)))
