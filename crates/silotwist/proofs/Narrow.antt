@@ -20,7 +20,7 @@ use mathlib.Core.Path.{_∙_, _≡_, ap, refl, sym}
 use native.Mathlib.Omega.{arith}
 
 -- each f, at a place
-each-at : (f : ℕ → ℕ) (n i k : ℕ) → k < n → getD (each f i n) k 0 ≡ f (i + k)
+pub each-at : (f : ℕ → ℕ) (n i k : ℕ) → k < n → getD (each f i n) k 0 ≡ f (i + k)
 unfolding each
 each-at f zero i k l = absurd (omega arith)
 each-at f (suc n) i zero l = ap f (omega arith)
@@ -79,15 +79,18 @@ module _ (ws : List ℕ) (ok : fine ws ≡ true) where
           let q : 3 + 2 * (i / 2) ≡ 3 + i = omega arith in
           let s = rw q at (slots-fit (i / 2) k) in
           omega arith
+
       odd : (i : ℕ) → 3 + i < length ws → i % 2 ≡ 1 → word ws (3 + i) < 65536
       odd i l e =
           let k : i / 2 < word ws 0 = omega (arith, fine-counted) in
           let q : 4 + 2 * (i / 2) ≡ 3 + i = omega arith in
           let s = rw q at (sizes-fit (i / 2) k) in
           omega arith
+
       by : (i : ℕ) → 3 + i < length ws → (b : Bool) → eqb (i % 2) 0 ≡ b → word ws (3 + i) < 65536
       by i l true e = even i l (eqb-true _ _ e)
       by i l false e = odd i l (let n = eqb-false (i % 2) 0 e in omega arith)
+
       go : (i : ℕ) → (b : Bool) → leb (length ws) (3 + i) ≡ b → word ws (3 + i) < 65536
       go i true e = rw (beyond ws (3 + i) (leb-true _ _ e)) (omega arith)
       go i false e = by i (leb-false _ _ e) (eqb (i % 2) 0) refl

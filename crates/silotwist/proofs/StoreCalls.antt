@@ -11,11 +11,11 @@ use Rattle.store.specs.Promise.{Reads, Writes}
 use Rattle.store.specs.declared.Setup.{Setup}
 use Rattle.silotwist.proofs.Answering.{answers, answers-short, roomy, short}
 use Rattle.silotwist.specs.Face.{Answers, answering}
-use Rattle.silotwist.specs.Inside.{ReadsStore, fine, wordsOf}
+use Rattle.silotwist.specs.Inside.{ReadsStore, eight, fine, wordsOf}
 use Rattle.silotwist.specs.Reading.{storeSetup, wellCounted}
 use Rattle.silotwist.specs.StoreFace.{BufferFaces, StoreFaces, storeCall}
 use Rattle.silotwist.specs.declared.Words.{Words}
-use lib.ListN.{drop, length, take}
+use lib.ListN.{drop, length}
 use mathlib.Core.Bool.{Bool, _&&_, false, true}
 use mathlib.Core.List.{List, [], _++_}
 use mathlib.Core.Path.{_∙_, _≡_, ap, refl, sym}
@@ -59,7 +59,7 @@ module _ {A : Type 0} (an sw st le : List ℕ) (call : Setup → List Pool → O
 
   pub asks : (su : Setup) (p : Paper) (w : Words) (n : ℕ) (an′ : List ℕ) → 8 ≤ length an → ReadsStore sw su
       → p ≡ says (judging su st le (call su)) → w ≡ wordsOf p
-      → n ≡ w .number → an′ ≡ take 8 (w .values) ++ drop 8 an → Answers (storeCall an sw st le call) an n an′
+      → n ≡ w .number → an′ ≡ eight (w .values) ++ drop 8 an → Answers (storeCall an sw st le call) an n an′
   unfolding storeCall
   asks su p w n an′ h r q e i j =
       answers an (worded sw st le call) p w n an′ h (q ∙ ap says (read-judged sw st le call su r)) e i j
@@ -86,7 +86,7 @@ module _ (an sw st le : List ℕ) (call : Setup → List Pool → Outcome (List 
 
   pub stores : (su : Setup) (p : Paper) (w : Words) (n : ℕ) (st′ le′ an′ : List ℕ) → 8 ≤ length an → ReadsStore sw su
       → Writes su st le (judging su st le (call su)) p st′ le′ → w ≡ wordsOf p
-      → n ≡ w .number → an′ ≡ take 8 (w .values) ++ drop 8 an → StoreFaces sw (storeCall an sw st le call) st le an n st′ le′ an′
+      → n ≡ w .number → an′ ≡ eight (w .values) ++ drop 8 an → StoreFaces sw (storeCall an sw st le call) st le an n st′ le′ an′
   unfolding storeCall
   stores su p w n st′ le′ an′ h r x e i j =
       let k = carry su p st′ le′ r x in
@@ -105,7 +105,7 @@ module _ (an sw st le buf : List ℕ) (call : Setup → List Pool → Outcome (L
 
   pub buffers : (su : Setup) (p : Paper) (w : Words) (n : ℕ) (buf′ an′ : List ℕ) → 8 ≤ length an → ReadsStore sw su
       → Reads (judging su st le (call su)) buf p buf′ → w ≡ wordsOf p
-      → n ≡ w .number → an′ ≡ take 8 (w .values) ++ drop 8 an → BufferFaces (storeCall an sw st le call) buf an n buf′ an′
+      → n ≡ w .number → an′ ≡ eight (w .values) ++ drop 8 an → BufferFaces (storeCall an sw st le call) buf an n buf′ an′
   unfolding storeCall
   buffers su p w n buf′ an′ h r x e i j =
       let m = roomy an (worded sw st le call) h in

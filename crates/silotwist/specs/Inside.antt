@@ -2,10 +2,11 @@
 use Prim.Native.Nat.{_+_, _*_, ℕ}
 use Rattle.record.specs.Record.{timesInRange}
 use Rattle.record.specs.declared.Record.{Record}
-use Rattle.rules.specs.Papers.{Outcome, Paper, after, says}
+use Rattle.rules.specs.Papers.{Paper}
 use Rattle.rules.specs.Tests.{allBelow}
 use Rattle.store.specs.Judge.{setupOk as storeSetupOk}
 use Rattle.store.specs.Limits.{maxSubpools}
+use Rattle.store.specs.View.{each}
 use Rattle.store.specs.declared.Setup.{Setup as StoreSetup}
 use lib.Dec.{ltb}
 use mathlib.Core.Bool.{Bool, _&&_, cond, false, true}
@@ -18,6 +19,10 @@ use Rattle.silotwist.specs.declared.Words.{Words}
 -- a paper's number, and its values in 8 words
 abbrev pub wordsOf : Paper → Words
 wordsOf p = record { number = p .number; values = padded (p .values) }
+
+-- the 8 words of a list
+unfoldable pub eight : List ℕ → List ℕ
+eight ws = each (word ws) 0 8
 
 -- the words of the subpools fit the fields that hold them
 unfoldable pub narrow : List ℕ → Bool

@@ -5,15 +5,15 @@ use store::StoreRefusal;
 ghost use mathlib.Core.Path.{_≡_};
 ghost use mathlib.Core.List.{[], _++_, _∷_};
 ghost use Prim.Native.Nat.{_≤_};
-ghost use lib.ListN.{drop, length, take};
+ghost use lib.ListN.{drop, length};
 ghost use Rattle.rules.specs.Papers.{no};
-ghost use Rattle.silotwist.specs.Inside.{wordsOf};
+ghost use Rattle.silotwist.specs.Inside.{eight, wordsOf};
 ghost use Rattle.store.specs.Refusals.{addedPaper, badPaper, deletedPaper, lengthPaper, paper as storePaper, presencePaper};
 
 // The first 8 words of the answer; those behind them stay.
 pub fn put(answer: &mut [u64], words: Words) -> u32
     requires { ⌜ 8 ≤ length (now answer) ⌝ }
-    ensures { λ r. ⌜ (r ≡ words .number) × (now (answer .exit) ≡ take 8 (words .values) ++ drop 8 (now (answer .entry))) ⌝ }
+    ensures { λ r. ⌜ (r ≡ words .number) × (now (answer .exit) ≡ eight (words .values) ++ drop 8 (now (answer .entry))) ⌝ }
 {
     let v = words.values;
     copy(answer, &v);
@@ -22,7 +22,7 @@ pub fn put(answer: &mut [u64], words: Words) -> u32
 
 fn copy(answer: &mut [u64], words: &[u64; 8])
     requires { ⌜ 8 ≤ length (now answer) ⌝ }
-    ensures { λ r. ⌜ now (answer .exit) ≡ take 8 (now (words .entry)) ++ drop 8 (now (answer .entry)) ⌝ }
+    ensures { λ r. ⌜ now (answer .exit) ≡ eight (now (words .entry)) ++ drop 8 (now (answer .entry)) ⌝ }
 {
     let mut i: usize = 0;
     while i < 8 {

@@ -16,7 +16,7 @@ pub extern "C" fn silotwist_store_add(
 ) -> u32
     ensures { λ n. ⌜ StoreFaces (now (setup .entry))
         (storeCall (now (answer .entry)) (now (setup .entry)) (now (store .entry)) (now (lens .entry))
-            (λ su ps. addIn (su .spill) ps (now («data» .entry))))
+        (λ su ps. addIn (su .spill) ps (now («data» .entry))))
         (now (store .entry)) (now (lens .entry)) (now (answer .entry)) n (now (store .exit)) (now (lens .exit)) (now (answer .exit)) ⌝ }
 {
     if answer.len() < 8 {
@@ -39,7 +39,7 @@ pub extern "C" fn silotwist_store_read(
 ) -> u32
     ensures { λ n. ⌜ BufferFaces
         (storeCall (now (answer .entry)) (now (setup .entry)) (now (store .entry)) (now (lens .entry))
-            (λ su ps. readIn ps address (now (buffer .entry))))
+        (λ su ps. readIn ps address (now (buffer .entry))))
         (now (buffer .entry)) (now (answer .entry)) n (now (buffer .exit)) (now (answer .exit)) ⌝ }
 {
     if answer.len() < 8 {
