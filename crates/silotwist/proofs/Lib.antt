@@ -5,3 +5,5 @@ pub mod Signed
 pub mod Standing
 pub mod Answering
 pub mod StoreCalls
+pub mod Written
+pub mod RecordCalls

@@ -38,6 +38,7 @@ module _ (n : ℕ) (s : ℤ) (a m b : ℕ) (on : Bool) where
   pub stands : Stands (of n s a m b on) (of n s (clipped a) m (clipped b) on)
   stands =
       record {
+        count = refl;
         same = λ e.
             let p = and-right (secsInRange s) (ltb a giga) (and-left (secsInRange s && ltb a giga) (leb m 2147483648 && ltb b giga) e) in
             let q = and-right (leb m 2147483648) (ltb b giga) (and-right (secsInRange s && ltb a giga) (leb m 2147483648 && ltb b giga) e) in

@@ -2,4 +2,6 @@
 pub mod Reading
 pub mod Face
 pub mod StoreFace
+pub mod RecordFace
+pub mod ScheduleFace
 pub mod Inside

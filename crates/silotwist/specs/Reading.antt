@@ -1,6 +1,7 @@
 -- The words of setup and record, as include/silotwist.h lays them out. Every word is taken whole, never cut to a width.
 use Prim.Native.Nat.{_*_, _+_, _-_, ℕ}
 use Rattle.record.specs.declared.Record.{Record}
+use Rattle.schedule.specs.declared.Setup.{Setup}
 use Rattle.store.specs.Limits.{maxSubpools}
 use Rattle.store.specs.View.{each}
 use Rattle.store.specs.declared.Setup.{Setup as StoreSetup}
@@ -29,6 +30,10 @@ column from ws = each (λ k. word ws (from + 2 * k)) 0 maxSubpools
 -- [0] subpools, [1] spilling; for subpool k, [3 + 2k] its slots and [4 + 2k] its slot size
 abbrev pub storeSetup : List ℕ → StoreSetup
 storeSetup ws = record { pools = word ws 0; sizes = column 4 ws; slots = column 3 ws; spill = switched (word ws 1) }
+
+-- [2] entries
+abbrev pub setupFrom : List ℕ → Setup
+setupFrom ws = record { store = storeSetup ws; entries = word ws 2 }
 
 -- a signed second from its two's complement
 unfoldable pub signedBy : Bool → ℕ → ℤ

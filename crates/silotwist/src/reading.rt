@@ -1,12 +1,16 @@
 // The words of setup and record, read.
+use crate::Words;
+use crate::answers;
 use record::Record;
+use schedule::Setup;
 use time::Margin;
 use time::UnixTime;
 ghost use mathlib.Core.Path.{_≡_};
 ghost use mathlib.Core.Bool.{false, true};
 ghost use Prim.Native.Nat.{_<_};
-ghost use Rattle.store.specs.Judge.{setupOk};
-ghost use Rattle.silotwist.specs.Inside.{ReadsStore, Stands, clipped, narrow};
+ghost use Rattle.schedule.specs.Judge.{setupOk};
+ghost use Rattle.store.specs.Judge.{setupOk as storeSetupOk};
+ghost use Rattle.silotwist.specs.Inside.{ReadsSetup, ReadsStore, Stands, clipped, narrow, shortPaper, wordsOf};
 ghost use Rattle.silotwist.specs.Reading.{column, recordFrom, signed as signedWord, switched, word as wordAt};
 
 // Word i; 0 behind the last.
@@ -87,7 +91,7 @@ pub fn is_on(w: u64) -> bool
 
 // A setup that refusal 1 is due for.
 fn bad_setup() -> store::Setup
-    ensures { λ r. ⌜ setupOk r ≡ false ⌝ }
+    ensures { λ r. ⌜ storeSetupOk r ≡ false ⌝ }
 {
     store::Setup {
         pools: 0,
@@ -122,6 +126,43 @@ pub fn store_setup(words: &[u64]) -> store::Setup
         slots: slots,
         spill: spill,
     }
+}
+
+// The whole setup.
+pub fn setup(words: &[u64]) -> Setup
+    ensures { λ r. ⌜ ReadsSetup (now (words .entry)) r ⌝ }
+{
+    let s = store_setup(words);
+    let n = word(words, 2);
+    Setup {
+        store: s,
+        entries: n as usize,
+    }
+}
+
+fn setup_ok(setup: Setup) -> bool
+    ensures { λ r. ⌜ r ≡ setupOk setup ⌝ }
+{
+    let s = setup.store;
+    let ok = store::setup_ok(s);
+    if !ok {
+        return false;
+    }
+    if setup.entries < 1 {
+        return false;
+    }
+    setup.entries <= 4096
+}
+
+// The refusal of a record with too few words: 1 where the setup is bad, and else 2.
+pub fn short_record(setup: Setup) -> Words
+    ensures { λ r. ⌜ r ≡ wordsOf (shortPaper setup) ⌝ }
+{
+    let ok = setup_ok(setup);
+    if ok {
+        return answers::none(2);
+    }
+    answers::none(1)
 }
 
 // Seconds from their two's complement.
