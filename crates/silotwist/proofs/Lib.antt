@@ -7,3 +7,4 @@ pub mod Answering
 pub mod StoreCalls
 pub mod Written
 pub mod RecordCalls
+pub mod ScheduleCalls

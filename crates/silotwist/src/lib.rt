@@ -2,6 +2,7 @@
 mod answers;
 mod reading;
 pub mod record_calls;
+pub mod schedule_calls;
 pub mod store_calls;
 mod writing;
 

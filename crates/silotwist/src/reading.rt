@@ -1,6 +1,7 @@
 // The words of setup and record, read.
 use crate::Words;
 use crate::answers;
+use deletions::Window;
 use record::Record;
 use schedule::Setup;
 use time::Margin;
@@ -12,6 +13,7 @@ ghost use Rattle.schedule.specs.Judge.{setupOk};
 ghost use Rattle.store.specs.Judge.{setupOk as storeSetupOk};
 ghost use Rattle.silotwist.specs.Inside.{ReadsSetup, ReadsStore, Stands, clipped, narrow, shortPaper, wordsOf};
 ghost use Rattle.silotwist.specs.Reading.{column, recordFrom, signed as signedWord, switched, word as wordAt};
+ghost use Rattle.silotwist.specs.ScheduleFace.{windowFrom};
 
 // Word i; 0 behind the last.
 pub fn word(words: &[u64], i: usize) -> u64
@@ -205,4 +207,30 @@ pub fn record(words: &[u64]) -> Record
         margin: margin,
         enabled: enabled,
     }
+}
+
+// A time as C gives it.
+pub fn time(secs: i64, nanos: u32) -> UnixTime
+    ensures { λ r. ⌜ r ≡ record { secs = secs; nanos = nanos } ⌝ }
+{
+    UnixTime {
+        secs: secs,
+        nanos: nanos,
+    }
+}
+
+// A window: an end that it has not is not looked at.
+pub fn window(has_from: bool, from: UnixTime, has_to: bool, to: UnixTime) -> Window
+    ensures { λ r. ⌜ r ≡ windowFrom «has_from» from «has_to» to ⌝ }
+{
+    if has_from {
+        if has_to {
+            return Window::FromTo(from, to);
+        }
+        return Window::From(from);
+    }
+    if has_to {
+        return Window::To(to);
+    }
+    Window::All
 }

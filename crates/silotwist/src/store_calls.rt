@@ -1,10 +1,16 @@
 // The store's calls.
+use crate::Words;
 use crate::answers;
 use crate::reading;
+use store::Setup;
+use store::Verdict;
+use store::Whereabouts;
 ghost use mathlib.Core.Path.{_≡_};
-ghost use Rattle.store.specs.Calls.{addIn, deleteIn, hasIn, lenIn, packetIn, readIn};
+ghost use Rattle.store.specs.Calls.{addIn, deleteIn, hasIn, judging, lenIn, packetIn, readIn};
 ghost use Rattle.silotwist.specs.Face.{Answers};
-ghost use Rattle.silotwist.specs.StoreFace.{BufferFaces, StoreFaces, storeCall};
+ghost use Rattle.rules.specs.Papers.{says};
+ghost use Rattle.silotwist.specs.Inside.{wordsOf};
+ghost use Rattle.silotwist.specs.StoreFace.{BufferFaces, StoreFaces, partIn, storeCall};
 
 #[no_mangle]
 pub extern "C" fn silotwist_store_add(
@@ -70,6 +76,43 @@ pub extern "C" fn silotwist_store_modify(
     let a = store::modify(su, store, lens, address);
     let w = answers::length(a);
     answers::put(answer, w)
+}
+
+#[no_mangle]
+pub extern "C" fn silotwist_store_part(
+    setup: &[u64],
+    store: &[u8],
+    lens: &[u16],
+    address: u64,
+    answer: &mut [u64],
+) -> u32
+    ensures { λ n. ⌜ Answers
+        (storeCall (now (answer .entry)) (now (setup .entry)) (now (store .entry)) (now (lens .entry)) (partIn address))
+        (now (answer .entry)) n (now (answer .exit)) ⌝ }
+{
+    if answer.len() < 8 {
+        return 2;
+    }
+    let su = reading::store_setup(setup);
+    let w = part(su, store, lens, address);
+    answers::put(answer, w)
+}
+
+// Where the packet's bytes lie in the store.
+fn part(setup: Setup, store: &[u8], lens: &[u16], address: u64) -> Words
+    ensures { λ r. ⌜ r ≡ wordsOf (says (judging setup (now (store .entry)) (now (lens .entry)) (partIn address setup))) ⌝ }
+{
+    let j = store::judge(setup, store.len(), lens);
+    match j {
+        Verdict::Refused(e) => answers::store_refusal(e),
+        Verdict::Fine => {
+            let f = store::judged::find(setup, store, lens, address);
+            match f {
+                Whereabouts::Refused(e) => answers::store_refusal(e),
+                Whereabouts::At(s) => answers::two(0, answers::wide(s.from), answers::wide(s.len)),
+            }
+        }
+    }
 }
 
 #[no_mangle]
