@@ -8,3 +8,5 @@ pub mod StoreCalls
 pub mod Written
 pub mod RecordCalls
 pub mod ScheduleCalls
+pub mod Resetting
+pub mod Parting

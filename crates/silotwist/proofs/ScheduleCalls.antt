@@ -195,7 +195,7 @@ unfolding after
 count-after rw₀ r r′ (refused p) l e q = rw q (set-same rw₀ (r .count) (omega arith) e)
 count-after rw₀ r r′ (done vs s) l e q = rw q
 
-stands-count : (rw₀ : List ℕ) (r : Record) → Stands (recordFrom rw₀) r → r .count ≡ word rw₀ 0
+pub stands-count : (rw₀ : List ℕ) (r : Record) → Stands (recordFrom rw₀) r → r .count ≡ word rw₀ 0
 unfolding recordFrom
 stands-count rw₀ r s = s .count
 
@@ -211,7 +211,7 @@ module _ (an sw rw₀ st le ro : List ℕ) (call : Setup → State → Outcome S
   unfolding judgedCall
   changes-short written = faces-short an sw rw₀ st le ro (judgedOf an sw rw₀ st le ro call) (word rw₀ 0) written
 
-  carries : (written : State → List ℕ) (su : Setup) (r r′ : Record) (p : Paper) (w : Words) (n : ℕ) (rw′ st′ le′ ro′ an′ : List ℕ) → 8 ≤ length an
+  pub carries : (written : State → List ℕ) (su : Setup) (r r′ : Record) (p : Paper) (w : Words) (n : ℕ) (rw′ st′ le′ ro′ an′ : List ℕ) → 8 ≤ length an
       → ReadsSetup sw su → 6 ≤ length rw₀ → Stands (recordFrom rw₀) r → Writes su r st le ro (judging su r st le ro (call su)) p r′ st′ le′ ro′
       → w ≡ wordsOf p → n ≡ w .number → an′ ≡ eight (w .values) ++ drop 8 an → rw′ ≡ after (judging su r st le ro (call su)) rw₀ written
       → ScheduleFaces sw (word rw₀ 0) (judgedCall an sw rw₀ st le ro call) written rw₀ st le ro an n rw′ st′ le′ ro′ an′
@@ -228,3 +228,18 @@ module _ (an sw rw₀ st le ro : List ℕ) (call : Setup → State → Outcome S
   changes su r r′ p w n rw′ st′ le′ ro′ an′ h s l t x e i j a =
       carries (countWritten rw₀) su r r′ p w n rw′ st′ le′ ro′ an′ h s l t x e i j
       (a ∙ count-after rw₀ r r′ (judging su r st le ro (call su)) l (stands-count rw₀ r t) (x .next))
+
+-- the same, where an argument was made from C's parameters
+pub looks-at : {A X : Type 0} (an sw rw₀ st le ro : List ℕ) (F : X → Setup → State → Outcome A) (x y : X) → x ≡ y → (su : Setup) (r : Record) (p : Paper)
+    (w : Words) (n : ℕ) (an′ : List ℕ) → 8 ≤ length an → ReadsSetup sw su → 6 ≤ length rw₀ → Stands (recordFrom rw₀) r
+    → p ≡ says (judging su r st le ro (F x su)) → w ≡ wordsOf p → n ≡ w .number → an′ ≡ eight (w .values) ++ drop 8 an
+    → Answers (judgedCall an sw rw₀ st le ro (F y)) an n an′
+looks-at an sw rw₀ st le ro F x y e su r p w n an′ h s l t q d i j = rw (← e) (looks an sw rw₀ st le ro (F x) su r p w n an′ h s l t q d i j)
+
+pub changes-at : {X : Type 0} (an sw rw₀ st le ro : List ℕ) (F : X → Setup → State → Outcome State) (x y : X) → x ≡ y → (su : Setup) (r r′ : Record)
+    (p : Paper) (w : Words) (n : ℕ) (rw′ st′ le′ ro′ an′ : List ℕ) → 8 ≤ length an
+    → ReadsSetup sw su → 6 ≤ length rw₀ → Stands (recordFrom rw₀) r → Writes su r st le ro (judging su r st le ro (F x su)) p r′ st′ le′ ro′
+    → w ≡ wordsOf p → n ≡ w .number → an′ ≡ eight (w .values) ++ drop 8 an → rw′ ≡ set rw₀ 0 (r′ .count)
+    → ScheduleFaces sw (word rw₀ 0) (judgedCall an sw rw₀ st le ro (F y)) (countWritten rw₀) rw₀ st le ro an n rw′ st′ le′ ro′ an′
+changes-at an sw rw₀ st le ro F x y e su r r′ p w n rw′ st′ le′ ro′ an′ h s l t q d i j k =
+    rw (← e) (changes an sw rw₀ st le ro (F x) su r r′ p w n rw′ st′ le′ ro′ an′ h s l t q d i j k)

@@ -1,109 +1,54 @@
-use native.Mathlib.Omega.{arith}
+-- `silotwist::schedule_calls::silotwist_fresh` meets its contract.
+-- Assumes nothing.
+use Rattle.silotwist.proofs.Resetting.{starts-at, starts-no-answer, starts-short}
 use borrow.Author.Needs.{needs}
 use Rattle.silotwist.proofs.schedule_calls.silotwist_fresh.Statement.{statement}
 use Rattle.silotwist.proofs.schedule_calls.silotwist_fresh.Tie as tie
-use Rattle.silotwist.proofs.schedule_calls.silotwist_fresh.Reads as reads
-use Rattle.silotwist.proofs.schedule_calls.silotwist_fresh.Lts as lts
-use Rattle.schedule.proofs.fresh_start.Reads as fresh-start-reads
-use Rattle.silotwist.proofs.answers.done.Reads as done-reads
-use Rattle.silotwist.proofs.answers.put.Reads as put-reads
-use Rattle.silotwist.proofs.reading.record.Reads as record-reads
-use Rattle.silotwist.proofs.reading.setup.Reads as setup-reads
-use Rattle.silotwist.proofs.reading.short_record.Reads as short-record-reads
-use Rattle.silotwist.proofs.reading.time.Reads as time-reads
-use Rattle.silotwist.proofs.writing.all.Reads as all-reads
 
--- src/schedule_calls.rt:365:9
 returns : tie.Need-returns
-returns c = ?
+returns c =
+    let a = c .before .before .before .before .before .before .before .args in
+    starts-no-answer (a .answer .now) (a .setup .now) (a .«record» .now) (a .store .now) (a .lens .now) (a .rows .now) (record { secs = a .clock-secs; nanos = a .clock-nanos }) (record { secs = a .margin-secs; nanos = a .margin-nanos }) (c .if1 .taken)
 
--- src/schedule_calls.rt:367:9
-setup-requires : tie.Need-setup-requires
-setup-requires c κs = search needs
-
--- src/schedule_calls.rt:369:37
-short-record-requires : tie.Need-short-record-requires
-short-record-requires c κs = search needs
-
--- src/schedule_calls.rt:369:9
 put-requires : tie.Need-put-requires
-put-requires c κs = search needs
+put-requires c κs = c .before .before .before .before .if1 .left
 
--- src/schedule_calls.rt:369:9
-same-length : tie.Need-same-length
-same-length c = search needs
-
--- src/schedule_calls.rt:369:9
 returns-2 : tie.Need-returns-2
-returns-2 c = ?
+returns-2 c =
+    let a = c .before .before .before .before .before .before .before .before .before .before .before .before .before .before .args in
+    starts-short (a .answer .now) (a .setup .now) (a .«record» .now) (a .store .now) (a .lens .now) (a .rows .now) (record { secs = a .clock-secs; nanos = a .clock-nanos }) (record { secs = a .margin-secs; nanos = a .margin-nanos }) _ _ _ _ (c .before .before .before .before .before .before .before .if1 .left) (c .before .before .before .before .before .before .setup .ensures) (c .before .before .before .before .before .if2 .taken)
+    (c .before .before .before .short-record .ensures) (c .before .before .put .ensures .0) (c .before .before .put .ensures .1)
 
--- src/schedule_calls.rt:371:9
-record-requires : tie.Need-record-requires
-record-requires c κs = search needs
-
--- src/schedule_calls.rt:372:9
-time-requires : tie.Need-time-requires
-time-requires c κs = search needs
-
--- src/schedule_calls.rt:377:9
-fresh-start-requires : tie.Need-fresh-start-requires
-fresh-start-requires c κs = search needs
-
--- src/schedule_calls.rt:380:9
-done-requires : tie.Need-done-requires
-done-requires c κs = search needs
-
--- src/schedule_calls.rt:381:5
-all-requires : tie.Need-all-requires
-all-requires c κs = search needs
-
--- src/schedule_calls.rt:382:5
 put-requires-2 : tie.Need-put-requires-2
-put-requires-2 c κs = search needs
+put-requires-2 c κs = c .before .before .before .before .before .before .before .before .before .before .before .before .before .before .before .before .before .before .before .before .before .before .if1 .left
 
--- src/schedule_calls.rt:343:1
-same-length-2 : tie.Need-same-length-2
-same-length-2 c = search needs
-
--- src/schedule_calls.rt:343:1
-same-length-3 : tie.Need-same-length-3
-same-length-3 c = search needs
-
--- src/schedule_calls.rt:343:1
-same-length-4 : tie.Need-same-length-4
-same-length-4 c = search needs
-
--- src/schedule_calls.rt:343:1
-same-length-5 : tie.Need-same-length-5
-same-length-5 c = search needs
-
--- src/schedule_calls.rt:343:1
-same-length-6 : tie.Need-same-length-6
-same-length-6 c = search needs
-
--- src/schedule_calls.rt:343:1
 returns-3 : tie.Need-returns-3
-returns-3 c = ?
+returns-3 c =
+    let a = c .before .before .before .before .before .before .before .before .before .before .before .before .before .before .before .before .before .before .before .before .before .before .before .before .before .before .before .before .before .before .before .before .args in
+    starts-at (a .answer .now) (a .setup .now) (a .«record» .now) (a .store .now) (a .lens .now) (a .rows .now) _ (record { secs = a .clock-secs; nanos = a .clock-nanos }) (record { secs = a .margin-secs; nanos = a .margin-nanos }) (c .before .before .before .before .before .before .before .before .before .before .before .before .before .before .before .before .before .before .before .before .time .ensures) _ _ _ _ _ _ _ _ _ _ _
+    (c .before .before .before .before .before .before .before .before .before .before .before .before .before .before .before .before .before .before .before .before .before .before .before .before .before .if1 .left) (c .before .before .before .before .before .before .before .before .before .before .before .before .before .before .before .before .before .before .before .before .before .before .before .before .setup .ensures) (c .before .before .before .before .before .before .before .before .before .before .before .before .before .before .before .before .before .before .before .before .before .before .before .if2 .left)
+    (c .before .before .before .before .before .before .before .before .before .before .before .before .before .before .before .before .fresh-start .ensures)
+    (c .before .before .before .before .before .before .before .before .done .ensures) (c .before .before .put2 .ensures .0) (c .before .before .put2 .ensures .1) (c .before .before .before .before .before .before .all .ensures)
 
 pub silotwist-fresh-spec : {M : Type 1} → statement M
 silotwist-fresh-spec =
     tie.close
     (tie.spec
     returns
-    setup-requires
-    short-record-requires
+    (λ c κs. search needs)
+    (λ c κs. search needs)
     put-requires
-    same-length
+    (λ c. search needs)
     returns-2
-    record-requires
-    time-requires
-    fresh-start-requires
-    done-requires
-    all-requires
+    (λ c κs. search needs)
+    (λ c κs. search needs)
+    (λ c κs. search needs)
+    (λ c κs. search needs)
+    (λ c κs. search needs)
     put-requires-2
-    same-length-2
-    same-length-3
-    same-length-4
-    same-length-5
-    same-length-6
+    (λ c. search needs)
+    (λ c. search needs)
+    (λ c. search needs)
+    (λ c. search needs)
+    (λ c. search needs)
     returns-3)

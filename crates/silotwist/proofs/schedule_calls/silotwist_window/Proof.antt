@@ -2,7 +2,8 @@
 -- Assumes nothing.
 use Rattle.deletions.specs.Windowing.{retrieveIn}
 use Rattle.silotwist.specs.ScheduleFace.{windowFrom}
-use Rattle.silotwist.proofs.ScheduleCalls.{looks, looks-no-answer, looks-short}
+use Rattle.silotwist.proofs.ScheduleCalls.{looks-at, looks-no-answer, looks-short}
+use mathlib.Core.Path.{_∙_, ap₂}
 use borrow.Author.Needs.{needs}
 use Rattle.silotwist.proofs.schedule_calls.silotwist_window.Statement.{statement}
 use Rattle.silotwist.proofs.schedule_calls.silotwist_window.Tie as tie
@@ -27,9 +28,9 @@ put-requires-2 c κs = c .before .before .before .before .before .before .before
 returns-3 : tie.Need-returns-3
 returns-3 c =
     let a = c .before .before .before .before .before .before .before .before .before .before .before .before .before .before .before .before .before .before .before .args in
-    looks (a .answer .now) (a .setup .now) (a .«record» .now) (a .store .now) (a .lens .now) (a .rows .now) (λ su. retrieveIn (windowFrom (a .has-from) (record { secs = a .from-secs; nanos = a .from-nanos }) (a .has-to) (record { secs = a .to-secs; nanos = a .to-nanos }))) _ _ _ _ _ _
+    looks-at (a .answer .now) (a .setup .now) (a .«record» .now) (a .store .now) (a .lens .now) (a .rows .now) (λ v su. retrieveIn v) _ (windowFrom (a .has-from) (record { secs = a .from-secs; nanos = a .from-nanos }) (a .has-to) (record { secs = a .to-secs; nanos = a .to-nanos })) (c .before .before .before .before .before .before .window .ensures ∙ ap₂ (λ x y. windowFrom (a .has-from) x (a .has-to) y) (c .before .before .before .before .before .before .before .before .time .ensures) (c .before .before .before .before .before .before .before .time2 .ensures)) _ _ _ _ _ _
     (c .before .before .before .before .before .before .before .before .before .before .before .before .if1 .left) (c .before .before .before .before .before .before .before .before .before .before .before .setup .ensures) (c .before .before .before .before .before .before .before .before .before .before .if2 .left) (c .before .before .before .before .before .before .before .before .before .«record» .ensures)
-    (rw (c .before .before .before .before .before .before .window .ensures, c .before .before .before .before .before .before .before .before .time .ensures, c .before .before .before .before .before .before .before .time2 .ensures) at (c .before .before .before .before .before .retrieve-by-time-filter .ensures))
+    (c .before .before .before .before .before .retrieve-by-time-filter .ensures)
     (c .before .before .before .before .retrieved .ensures) (c .before .before .put2 .ensures .0) (c .before .before .put2 .ensures .1)
 
 pub silotwist-window-spec : {M : Type 1} → statement M
