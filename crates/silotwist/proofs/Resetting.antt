@@ -31,8 +31,8 @@ use native.Mathlib.Omega.{arith}
 -- the count and the mark after a reset: nothing of a refusal
 reset-by : (rw₀ : List ℕ) (r : Record) (a b d : Bool) (vs : List ℕ) (s : State) → 6 ≤ length rw₀ → r .count ≡ word rw₀ 0
     → writtenIf (says (judgedBy a b d (done vs s)) .number) (set (set rw₀ 0 (after (judgedBy a b d (done vs s)) r recordOf .count)) 5 0)
-        (set rw₀ 0 (after (judgedBy a b d (done vs s)) r recordOf .count))
-      ≡ after (judgedBy a b d (done vs s)) rw₀ (resetWritten rw₀)
+    (set rw₀ 0 (after (judgedBy a b d (done vs s)) r recordOf .count))
+    ≡ after (judgedBy a b d (done vs s)) rw₀ (resetWritten rw₀)
 unfolding judgedBy unless says after writtenIf
 reset-by rw₀ r false b d vs s l e = set-same rw₀ (r .count) (omega arith) e
 reset-by rw₀ r true false d vs s l e = set-same rw₀ (r .count) (omega arith) e
@@ -41,8 +41,8 @@ reset-by rw₀ r true true true vs s l e = refl
 
 reset-words : (rw₀ : List ℕ) (su : Setup) (r : Record) (st le ro : List ℕ) → 6 ≤ length rw₀ → r .count ≡ word rw₀ 0
     → writtenIf (says (judging su r st le ro resetIn) .number) (set (set rw₀ 0 (after (judging su r st le ro resetIn) r recordOf .count)) 5 0)
-        (set rw₀ 0 (after (judging su r st le ro resetIn) r recordOf .count))
-      ≡ after (judging su r st le ro resetIn) rw₀ (resetWritten rw₀)
+    (set rw₀ 0 (after (judging su r st le ro resetIn) r recordOf .count))
+    ≡ after (judging su r st le ro resetIn) rw₀ (resetWritten rw₀)
 unfolding judging resetIn clearIn
 reset-words rw₀ su r st le ro l e =
     reset-by rw₀ r (setupOk su) (buffersOk su (length st) (length le) (length ro)) (stateOk su r le ro) _ _ l e
@@ -66,7 +66,7 @@ module _ (an sw rw₀ st le ro : List ℕ) where
       carries an sw rw₀ st le ro (λ v. resetIn) (resetWritten rw₀) su r r′ p w n rw′ st′ le′ ro′ an′ h s l t x e i j
       (m ∙ ap (λ ws. writtenIf (w .number) (set ws 5 0) ws) (k ∙ ap (λ (y : Record). set rw₀ 0 (y .count)) (x .next))
       ∙ ap (λ q. writtenIf q (set (set rw₀ 0 (after (judging su r st le ro resetIn) r recordOf .count)) 5 0) (set rw₀ 0 (after (judging su r st le ro resetIn) r recordOf .count)))
-          (ap (λ (y : Words). y .number) e ∙ ap (λ (q : Paper). q .number) (x .answer))
+      (ap (λ (y : Words). y .number) e ∙ ap (λ (q : Paper). q .number) (x .answer))
       ∙ reset-words rw₀ su r st le ro l (stands-count rw₀ r t))
 
 -- all six words after a fresh start
@@ -75,8 +75,8 @@ allWords rw₀ r = r .count ∷ timeWords (r .clock) (marginWords (r .margin) (b
 
 start-by : (rw₀ : List ℕ) (r : Record) (a b d : Bool) (s : State)
     → writtenIf (says (unless a (refused (no 1 [])) (unless b (refused (no 2 [])) (unless d (refused (no 4 [])) (done [] s)))) .number)
-        (allWords rw₀ (after (unless a (refused (no 1 [])) (unless b (refused (no 2 [])) (unless d (refused (no 4 [])) (done [] s)))) r recordOf)) rw₀
-      ≡ after (unless a (refused (no 1 [])) (unless b (refused (no 2 [])) (unless d (refused (no 4 [])) (done [] s)))) rw₀ (allWritten rw₀)
+    (allWords rw₀ (after (unless a (refused (no 1 [])) (unless b (refused (no 2 [])) (unless d (refused (no 4 [])) (done [] s)))) r recordOf)) rw₀
+    ≡ after (unless a (refused (no 1 [])) (unless b (refused (no 2 [])) (unless d (refused (no 4 [])) (done [] s)))) rw₀ (allWritten rw₀)
 unfolding unless says after writtenIf
 start-by rw₀ r false b d s = refl
 start-by rw₀ r true false d s = refl
@@ -124,6 +124,6 @@ pub starts-at : (an sw rw₀ st le ro : List ℕ) (x y : UnixTime) (margin : Mar
     → Starts su r st le ro (startIn su (length st) (length le) (length ro) x margin) p r′ st′ le′ ro′
     → w ≡ wordsOf p → n ≡ w .number → an′ ≡ eight (w .values) ++ drop 8 an → rw′ ≡ writtenIf (w .number) (allWords rw₀ r′) rw₀
     → ScheduleFaces sw (word sw 2) (scheduleCall an sw rw₀ (λ v q. startIn v (length st) (length le) (length ro) y margin)) (allWritten rw₀)
-        rw₀ st le ro an n rw′ st′ le′ ro′ an′
+    rw₀ st le ro an n rw′ st′ le′ ro′ an′
 starts-at an sw rw₀ st le ro x y margin e su r r′ p w n rw′ st′ le′ ro′ an′ h s l q d i j k =
     rw (← e) (starts an sw rw₀ st le ro x margin su r r′ p w n rw′ st′ le′ ro′ an′ h s l q d i j k)

@@ -3,6 +3,7 @@
 use Prim.Native.Nat.{_-_, _<_, _≤_, suc, zero, ℕ}
 use Rattle.time.proofs.Signed.{pos-back}
 use Rattle.record.specs.Refusals.{wordOf}
+use Rattle.time.specs.declared.UnixTime.{UnixTime}
 use borrow.Author.Tests.{le-ltb, ltb-true}
 use lib.Dec.{T}
 use lib.IntN.{_-ℤ_, natAbs, negsuc, pos, ℤ}
@@ -84,3 +85,6 @@ module _ (z : ℤ) (f : SFits w64 z) (e : ltZ (toZ w64 (ofZ w64 z)) (pos 0) ≡ 
 
 pub held-word : (z : ℤ) (w : ℕ) → SFits w64 z → w ≡ wordOf (toZ w64 (ofZ w64 z)) → w ≡ wordOf z
 held-word z w f e = e ∙ ap wordOf (toZ-ofZ f)
+
+pub held-time : (z : ℤ) (n : ℕ) (t : UnixTime) → SFits w64 z → t ≡ record { secs = toZ w64 (ofZ w64 z); nanos = n } → t ≡ record { secs = z; nanos = n }
+held-time z n t f e = e ∙ ap (λ (y : ℤ). record { secs = y; nanos = n }) (toZ-ofZ f)

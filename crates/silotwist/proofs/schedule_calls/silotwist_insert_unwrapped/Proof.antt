@@ -3,6 +3,7 @@
 use Rattle.insertions.specs.Inserting.{insertUnwrappedIn}
 use Rattle.silotwist.specs.ScheduleFace.{countWritten}
 use Rattle.silotwist.proofs.ScheduleCalls.{changes-at, changes-no-answer, changes-short}
+use Rattle.silotwist.proofs.Signed.{held-time}
 use borrow.Author.Needs.{needs}
 use Rattle.silotwist.proofs.schedule_calls.silotwist_insert_unwrapped.Statement.{statement}
 use Rattle.silotwist.proofs.schedule_calls.silotwist_insert_unwrapped.Tie as tie
@@ -27,7 +28,7 @@ put-requires-2 c κs = c .before .before .before .before .before .before .before
 returns-3 : tie.Need-returns-3
 returns-3 c =
     let a = c .before .before .before .before .before .before .before .before .before .before .before .before .before .before .before .before .before .before .before .before .before .before .before .before .before .before .before .before .before .before .before .before .before .args in
-    changes-at (a .answer .now) (a .setup .now) (a .«record» .now) (a .store .now) (a .lens .now) (a .rows .now) (λ t su. insertUnwrappedIn su t (a .packet .now)) _ (record { secs = a .secs; nanos = a .nanos }) (c .before .before .before .before .before .before .before .before .before .before .before .before .before .before .before .before .before .before .before .before .time .ensures) _ _ _ _ _ _ _ _ _ _ _
+    changes-at (a .answer .now) (a .setup .now) (a .«record» .now) (a .store .now) (a .lens .now) (a .rows .now) (λ t su. insertUnwrappedIn su t (a .packet .now)) _ (record { secs = a .secs; nanos = a .nanos }) (held-time _ _ _ (c .before .before .before .before .before .before .before .before .before .before .before .before .before .before .before .before .before .before .before .before .before .before .before .before .before .before .before .before .before .before .before .before .before .fits .secs) (c .before .before .before .before .before .before .before .before .before .before .before .before .before .before .before .before .before .before .before .before .time .ensures)) _ _ _ _ _ _ _ _ _ _ _
     (c .before .before .before .before .before .before .before .before .before .before .before .before .before .before .before .before .before .before .before .before .before .before .before .before .before .if1 .left) (c .before .before .before .before .before .before .before .before .before .before .before .before .before .before .before .before .before .before .before .before .before .before .before .before .setup .ensures) (c .before .before .before .before .before .before .before .before .before .before .before .before .before .before .before .before .before .before .before .before .before .before .before .if2 .left) (c .before .before .before .before .before .before .before .before .before .before .before .before .before .before .before .before .before .before .before .before .before .«record» .ensures)
     (c .before .before .before .before .before .before .before .before .before .before .before .before .before .before .before .before .insert-unwrapped-tc .ensures)
     (c .before .before .before .before .before .before .before .before .inserted .ensures) (c .before .before .put2 .ensures .0) (c .before .before .put2 .ensures .1) (c .before .before .before .before .before .before .count .ensures)
