@@ -75,7 +75,8 @@ module _ {A : Type 0} (an : List ℕ) (o : Outcome A) where
       rw (roomy h)
       (record {
         number = i ∙ ap (λ (x : Words). x .number) e ∙ ap (λ (x : Paper). x .number) q;
-        words = j ∙ ap (λ (x : Words). eight (x .values) ++ drop 8 an) (e ∙ ap wordsOf q) ∙ ap (λ l. l ++ drop 8 an) (padded-again (says o .values)) ∙ fits;
+        words = j ∙ ap (λ (x : Words). eight (x .values) ++ drop 8 an) (e ∙ ap wordsOf q) ∙ ap (λ l. l ++ drop 8 an) (padded-again
+            (says o .values)) ∙ fits;
       })
     where
       fits : padded (says o .values) ++ drop 8 an ≡ answered an (says o .values)

@@ -10,3 +10,4 @@ pub mod RecordCalls
 pub mod ScheduleCalls
 pub mod Resetting
 pub mod Parting
+pub mod Once

@@ -48,7 +48,8 @@ module _ (su : Setup) (st le : List ℕ) (a : ℕ) (s : Sound su st le) (r : Whe
   unfolding partIn
   whole = judging-fine su st le (partIn a su) s
 
-  pub part-refused : (e : StoreRefusal) (w : Words) → r ≡ W.Refused e → w ≡ wordsOf (paper e) → w ≡ wordsOf (says (judging su st le (partIn a su)))
+  pub part-refused : (e : StoreRefusal) (w : Words) → r ≡ W.Refused e → w ≡ wordsOf (paper e) → w ≡ wordsOf (says (judging su st le
+      (partIn a su)))
   unfolding packetIn foundAs says
   part-refused e w q h =
       let g : refused (paper e) ≡ Packet a (find (view su st le) a) = rw q at (f .same) in

@@ -68,17 +68,20 @@ module _ (x r : Record) (s : Stands x r) where
 
 -- what is written where the number is 0 is what the call changes
 module _ (rw₀ : List ℕ) (r : Record) where
-  pub clock-written : (t : UnixTime) → writtenIf (says (clockIn t r) .number) (clockWritten rw₀ (withClock t r)) rw₀ ≡ after (clockIn t r) rw₀ (clockWritten rw₀)
+  pub clock-written : (t : UnixTime) → writtenIf (says (clockIn t r) .number) (clockWritten rw₀ (withClock t r)) rw₀ ≡ after (clockIn t r) rw₀
+      (clockWritten rw₀)
   unfolding clockIn writtenIf unless says after
   clock-written t = go (timesInRange r) (inRange t)
     where
-      go : (a b : Bool) → writtenIf (says (unless a (refused (no 3 [])) (unless b (refused (no 4 [])) (done [] (withClock t r)))) .number) (clockWritten rw₀ (withClock t r)) rw₀
+      go : (a b : Bool) → writtenIf (says (unless a (refused (no 3 [])) (unless b (refused (no 4 [])) (done [] (withClock t r)))) .number)
+          (clockWritten rw₀ (withClock t r)) rw₀
           ≡ after (unless a (refused (no 3 [])) (unless b (refused (no 4 [])) (done [] (withClock t r)))) rw₀ (clockWritten rw₀)
       go false b = refl
       go true false = refl
       go true true = refl
 
-  pub mark-written : (on : Bool) → writtenIf (says (markIn on r) .number) (markWritten rw₀ (withMark on r)) rw₀ ≡ after (markIn on r) rw₀ (markWritten rw₀)
+  pub mark-written : (on : Bool) → writtenIf (says (markIn on r) .number) (markWritten rw₀ (withMark on r)) rw₀ ≡ after (markIn on r) rw₀
+      (markWritten rw₀)
   unfolding markIn writtenIf unless says after
   mark-written on = go (timesInRange r)
     where

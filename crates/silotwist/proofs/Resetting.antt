@@ -65,7 +65,8 @@ module _ (an sw rw₀ st le ro : List ℕ) where
   resets su r r′ p w n rw₁ rw′ st′ le′ ro′ an′ h s l t x e i j k m =
       carries an sw rw₀ st le ro (λ v. resetIn) (resetWritten rw₀) su r r′ p w n rw′ st′ le′ ro′ an′ h s l t x e i j
       (m ∙ ap (λ ws. writtenIf (w .number) (set ws 5 0) ws) (k ∙ ap (λ (y : Record). set rw₀ 0 (y .count)) (x .next))
-      ∙ ap (λ q. writtenIf q (set (set rw₀ 0 (after (judging su r st le ro resetIn) r recordOf .count)) 5 0) (set rw₀ 0 (after (judging su r st le ro resetIn) r recordOf .count)))
+      ∙ ap (λ q. writtenIf q (set (set rw₀ 0 (after (judging su r st le ro resetIn) r recordOf .count)) 5 0) (set rw₀ 0 (after
+      (judging su r st le ro resetIn) r recordOf .count)))
       (ap (λ (y : Words). y .number) e ∙ ap (λ (q : Paper). q .number) (x .answer))
       ∙ reset-words rw₀ su r st le ro l (stands-count rw₀ r t))
 
@@ -95,7 +96,8 @@ module _ (an sw rw₀ st le ro : List ℕ) (clock : UnixTime) (margin : Margin) 
       ≡ after (startOf su r) rw₀ (allWritten rw₀)
   unfolding startIn
   start-words su r =
-      start-by rw₀ r (setupOk su) (buffersOk su (length st) (length le) (length ro)) (inRange clock && marginInRange margin) (freshState su clock margin)
+      start-by rw₀ r (setupOk su) (buffersOk su (length st) (length le) (length ro)) (inRange clock && marginInRange margin)
+      (freshState su clock margin)
 
   pub starts-no-answer : length an < 8
       → ScheduleFaces sw (word sw 2) (scheduleCall an sw rw₀ startOf) (allWritten rw₀) rw₀ st le ro an 2 rw₀ st le ro an
@@ -114,12 +116,14 @@ module _ (an sw rw₀ st le ro : List ℕ) (clock : UnixTime) (margin : Margin) 
       faces-done an sw rw₀ st le ro startOf (word sw 2) (allWritten rw₀) su r p w n rw′ st′ le′ ro′ an′ h s
       (worded-is an sw rw₀ startOf start-bad r (λ v. refl) su s l) (x .answer) e i j
       (k ∙ ap (λ y. writtenIf (w .number) (allWords rw₀ y) rw₀) (x .next)
-      ∙ ap (λ q. writtenIf q (allWords rw₀ (after (startOf su r) r recordOf)) rw₀) (ap (λ (y : Words). y .number) e ∙ ap (λ (q : Paper). q .number) (x .answer))
+      ∙ ap (λ q. writtenIf q (allWords rw₀ (after (startOf su r) r recordOf)) rw₀) (ap (λ (y : Words). y .number) e ∙ ap (λ
+      (q : Paper). q .number) (x .answer))
       ∙ start-words su r)
       (x .store) (x .lens) (x .rows ∙ ap (λ m. after (startOf su r) ro (λ v. relaid ro m (v .entries))) (s .entries))
 
 -- the same, for a clock made from C's parameters
-pub starts-at : (an sw rw₀ st le ro : List ℕ) (x y : UnixTime) (margin : Margin) → x ≡ y → (su : Setup) (r r′ : Record) (p : Paper) (w : Words) (n : ℕ)
+pub starts-at : (an sw rw₀ st le ro : List ℕ) (x y : UnixTime) (margin : Margin) → x ≡ y → (su : Setup) (r r′ : Record) (p : Paper) (w : Words)
+    (n : ℕ)
     (rw′ st′ le′ ro′ an′ : List ℕ) → 8 ≤ length an → ReadsSetup sw su → 6 ≤ length rw₀
     → Starts su r st le ro (startIn su (length st) (length le) (length ro) x margin) p r′ st′ le′ ro′
     → w ≡ wordsOf p → n ≡ w .number → an′ ≡ eight (w .values) ++ drop 8 an → rw′ ≡ writtenIf (w .number) (allWords rw₀ r′) rw₀

@@ -76,7 +76,8 @@ module _ {A : Type 0} (an sw rw₀ : List ℕ) (call : Setup → Record → Outc
     unfolding unless
     worded-is su s l = go (fine sw) refl
       where
-        pick : (b : Bool) → setupOk (setupFrom sw) ≡ b → call (setupFrom sw) r ≡ unless b (refused (no 1 [])) (call (setupFrom sw) (recordFrom rw₀))
+        pick : (b : Bool) → setupOk (setupFrom sw) ≡ b → call (setupFrom sw) r ≡ unless b (refused (no 1 [])) (call (setupFrom sw)
+            (recordFrom rw₀))
         pick true e = stood (setupFrom sw)
         pick false e = bad (setupFrom sw) r e
 
@@ -98,7 +99,8 @@ module _ {A : Type 0} (an sw rw₀ : List ℕ) (call : Setup → Record → Outc
   unfolding scheduleCall
   asks-no-answer h = answers-short an worded h
 
-  pub asks-short : (su : Setup) (w : Words) (n : ℕ) (an′ : List ℕ) → 8 ≤ length an → ReadsSetup sw su → length rw₀ < 6 → w ≡ wordsOf (shortPaper su)
+  pub asks-short : (su : Setup) (w : Words) (n : ℕ) (an′ : List ℕ) → 8 ≤ length an → ReadsSetup sw su → length rw₀ < 6 → w ≡ wordsOf
+      (shortPaper su)
       → n ≡ w .number → an′ ≡ eight (w .values) ++ drop 8 an → Answers (scheduleCall an sw rw₀ call) an n an′
   unfolding scheduleCall says
   asks-short su w n an′ h r l e i j = answers an worded (shortPaper su) w n an′ h (rw (short-is su r l)) e i j
@@ -136,16 +138,19 @@ module _ {A : Type 0} (an sw rw₀ st le ro : List ℕ) (call : Setup → State 
   abbrev pub judgedOf : Setup → Record → Outcome A
   judgedOf su r = judging su r st le ro (call su)
 
-  pub judged-is : (su : Setup) (r : Record) → ReadsSetup sw su → Stands (recordFrom rw₀) r → 6 ≤ length rw₀ → judgedOf su r ≡ worded an sw rw₀ judgedOf
+  pub judged-is : (su : Setup) (r : Record) → ReadsSetup sw su → Stands (recordFrom rw₀) r → 6 ≤ length rw₀
+      → judgedOf su r ≡ worded an sw rw₀ judgedOf
   judged-is su r s t l =
-      worded-is an sw rw₀ judgedOf (λ v y e. bad-judged v y st le ro (call v) e) r (λ v. stands-judged v (recordFrom rw₀) r st le ro (call v) t) su s l
+      worded-is an sw rw₀ judgedOf (λ v y e. bad-judged v y st le ro (call v) e) r (λ v. stands-judged v (recordFrom rw₀) r st le ro
+      (call v) t) su s l
 
   -- calls that only answer
   pub looks-no-answer : length an < 8 → Answers (judgedCall an sw rw₀ st le ro call) an 2 an
   unfolding judgedCall
   looks-no-answer h = asks-no-answer an sw rw₀ judgedOf h
 
-  pub looks-short : (su : Setup) (w : Words) (n : ℕ) (an′ : List ℕ) → 8 ≤ length an → ReadsSetup sw su → length rw₀ < 6 → w ≡ wordsOf (shortPaper su)
+  pub looks-short : (su : Setup) (w : Words) (n : ℕ) (an′ : List ℕ) → 8 ≤ length an → ReadsSetup sw su → length rw₀ < 6 → w ≡ wordsOf
+      (shortPaper su)
       → n ≡ w .number → an′ ≡ eight (w .values) ++ drop 8 an → Answers (judgedCall an sw rw₀ st le ro call) an n an′
   unfolding judgedCall
   looks-short = asks-short an sw rw₀ judgedOf
@@ -164,7 +169,8 @@ module _ (an sw rw₀ st le ro : List ℕ) (call : Setup → Record → Outcome 
       let e = short an (worded an sw rw₀ call) h in
       record { answer = asks-no-answer an sw rw₀ call h; words = rw e; store = rw e; lens = rw e; rows = rw e }
 
-  pub faces-short : (su : Setup) (w : Words) (n : ℕ) (an′ : List ℕ) → 8 ≤ length an → ReadsSetup sw su → length rw₀ < 6 → w ≡ wordsOf (shortPaper su)
+  pub faces-short : (su : Setup) (w : Words) (n : ℕ) (an′ : List ℕ) → 8 ≤ length an → ReadsSetup sw su → length rw₀ < 6 → w ≡ wordsOf
+      (shortPaper su)
       → n ≡ w .number → an′ ≡ eight (w .values) ++ drop 8 an
       → ScheduleFaces sw k (scheduleCall an sw rw₀ call) written rw₀ st le ro an n rw₀ st le ro an′
   unfolding scheduleCall after
@@ -205,13 +211,15 @@ module _ (an sw rw₀ st le ro : List ℕ) (call : Setup → State → Outcome S
   unfolding judgedCall
   changes-no-answer written h = faces-no-answer an sw rw₀ st le ro (judgedOf an sw rw₀ st le ro call) (word rw₀ 0) written h
 
-  pub changes-short : (written : State → List ℕ) (su : Setup) (w : Words) (n : ℕ) (an′ : List ℕ) → 8 ≤ length an → ReadsSetup sw su → length rw₀ < 6
+  pub changes-short : (written : State → List ℕ) (su : Setup) (w : Words) (n : ℕ) (an′ : List ℕ) → 8 ≤ length an → ReadsSetup sw su
+      → length rw₀ < 6
       → w ≡ wordsOf (shortPaper su) → n ≡ w .number → an′ ≡ eight (w .values) ++ drop 8 an
       → ScheduleFaces sw (word rw₀ 0) (judgedCall an sw rw₀ st le ro call) written rw₀ st le ro an n rw₀ st le ro an′
   unfolding judgedCall
   changes-short written = faces-short an sw rw₀ st le ro (judgedOf an sw rw₀ st le ro call) (word rw₀ 0) written
 
-  pub carries : (written : State → List ℕ) (su : Setup) (r r′ : Record) (p : Paper) (w : Words) (n : ℕ) (rw′ st′ le′ ro′ an′ : List ℕ) → 8 ≤ length an
+  pub carries : (written : State → List ℕ) (su : Setup) (r r′ : Record) (p : Paper) (w : Words) (n : ℕ) (rw′ st′ le′ ro′ an′ : List ℕ)
+      → 8 ≤ length an
       → ReadsSetup sw su → 6 ≤ length rw₀ → Stands (recordFrom rw₀) r → Writes su r st le ro (judging su r st le ro (call su)) p r′ st′ le′ ro′
       → w ≡ wordsOf p → n ≡ w .number → an′ ≡ eight (w .values) ++ drop 8 an → rw′ ≡ after (judging su r st le ro (call su)) rw₀ written
       → ScheduleFaces sw (word rw₀ 0) (judgedCall an sw rw₀ st le ro call) written rw₀ st le ro an n rw′ st′ le′ ro′ an′
@@ -230,13 +238,15 @@ module _ (an sw rw₀ st le ro : List ℕ) (call : Setup → State → Outcome S
       (a ∙ count-after rw₀ r r′ (judging su r st le ro (call su)) l (stands-count rw₀ r t) (x .next))
 
 -- the same, where an argument was made from C's parameters
-pub looks-at : {A X : Type 0} (an sw rw₀ st le ro : List ℕ) (F : X → Setup → State → Outcome A) (x y : X) → x ≡ y → (su : Setup) (r : Record) (p : Paper)
+pub looks-at : {A X : Type 0} (an sw rw₀ st le ro : List ℕ) (F : X → Setup → State → Outcome A) (x y : X) → x ≡ y → (su : Setup) (r : Record)
+    (p : Paper)
     (w : Words) (n : ℕ) (an′ : List ℕ) → 8 ≤ length an → ReadsSetup sw su → 6 ≤ length rw₀ → Stands (recordFrom rw₀) r
     → p ≡ says (judging su r st le ro (F x su)) → w ≡ wordsOf p → n ≡ w .number → an′ ≡ eight (w .values) ++ drop 8 an
     → Answers (judgedCall an sw rw₀ st le ro (F y)) an n an′
 looks-at an sw rw₀ st le ro F x y e su r p w n an′ h s l t q d i j = rw (← e) (looks an sw rw₀ st le ro (F x) su r p w n an′ h s l t q d i j)
 
-pub changes-at : {X : Type 0} (an sw rw₀ st le ro : List ℕ) (F : X → Setup → State → Outcome State) (x y : X) → x ≡ y → (su : Setup) (r r′ : Record)
+pub changes-at : {X : Type 0} (an sw rw₀ st le ro : List ℕ) (F : X → Setup → State → Outcome State) (x y : X) → x ≡ y → (su : Setup)
+    (r r′ : Record)
     (p : Paper) (w : Words) (n : ℕ) (rw′ st′ le′ ro′ an′ : List ℕ) → 8 ≤ length an
     → ReadsSetup sw su → 6 ≤ length rw₀ → Stands (recordFrom rw₀) r → Writes su r st le ro (judging su r st le ro (F x su)) p r′ st′ le′ ro′
     → w ≡ wordsOf p → n ≡ w .number → an′ ≡ eight (w .values) ++ drop 8 an → rw′ ≡ set rw₀ 0 (r′ .count)

@@ -39,7 +39,11 @@ low (negsuc n) = n
 
 negative : (z : ℤ) → ltZ z (pos 0) ≡ true → (negsuc 0 -ℤ z ≡ pos (low z)) × (18446744073709551615 - low z ≡ wordOf z)
 negative (pos n) e = let h = ltb-true n 0 e in absurd (omega arith)
-negative (negsuc n) e = (ap (λ (b : Bool). cond b (negsuc (suc 0 - suc (suc n))) (pos (suc n - suc 0))) (le-ltb (suc n) 1 (omega arith)) ∙ ap pos (omega arith), refl)
+negative (negsuc n) e = (
+  ap (λ (b : Bool). cond b (negsuc (suc 0 - suc (suc n))) (pos (suc n - suc 0))) (le-ltb (suc n) 1 (omega arith)) ∙ ap pos
+      (omega arith),
+  refl,
+)
 
 low-fits : (z : ℤ) → SFits w64 z → low z < 9223372036854775808
 low-fits (pos n) f = omega arith
@@ -86,5 +90,6 @@ module _ (z : ℤ) (f : SFits w64 z) (e : ltZ (toZ w64 (ofZ w64 z)) (pos 0) ≡ 
 pub held-word : (z : ℤ) (w : ℕ) → SFits w64 z → w ≡ wordOf (toZ w64 (ofZ w64 z)) → w ≡ wordOf z
 held-word z w f e = e ∙ ap wordOf (toZ-ofZ f)
 
-pub held-time : (z : ℤ) (n : ℕ) (t : UnixTime) → SFits w64 z → t ≡ record { secs = toZ w64 (ofZ w64 z); nanos = n } → t ≡ record { secs = z; nanos = n }
+pub held-time : (z : ℤ) (n : ℕ) (t : UnixTime) → SFits w64 z → t ≡ record { secs = toZ w64 (ofZ w64 z); nanos = n }
+    → t ≡ record { secs = z; nanos = n }
 held-time z n t f e = e ∙ ap (λ (y : ℤ). record { secs = y; nanos = n }) (toZ-ofZ f)

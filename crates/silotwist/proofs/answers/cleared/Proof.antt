@@ -8,7 +8,8 @@ use Rattle.silotwist.proofs.answers.cleared.Tie as tie
 
 returns : tie.Need-returns
 unfolding clearedPaper
-returns c = told clearedPaper (c .before .before .before .before .before .a .given .1) (carry-is _ (c .behind .ensures) (c .before .last .ensures) (c .before .before .before .wide .ensures) (c .before .before .wide2 .ensures) (last-few _))
+returns c = told clearedPaper (c .before .before .before .before .before .a .given .1) (carry-is _ (c .behind .ensures) (c .before .last .ensures)
+    (c .before .before .before .wide .ensures) (c .before .before .wide2 .ensures) (last-few _))
 
 returns-2 : tie.Need-returns-2
 unfolding clearedPaper

@@ -17,7 +17,8 @@ returns-2 c = told freedPaper (c .before .enum-told2 .given .1) (c .two .ensures
 
 returns-3 : tie.Need-returns-3
 unfolding freedPaper
-returns-3 c = told freedPaper (c .before .before .before .a .given .1) (carry-is _ (c .behind .ensures) (c .before .store-refusal .ensures) refl refl (store-few _))
+returns-3 c = told freedPaper (c .before .before .before .a .given .1) (carry-is _ (c .behind .ensures)
+    (c .before .store-refusal .ensures) refl refl (store-few _))
 
 returns-4 : tie.Need-returns-4
 unfolding freedPaper

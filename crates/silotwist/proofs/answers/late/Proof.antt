@@ -13,7 +13,8 @@ returns : tie.Need-returns
 returns c =
     let f : SFits w64 (c .before .before .before .before .before .before .before .args .clock .secs) = search needs in
     let g : SFits w64 (c .before .before .before .before .before .before .before .args .release .secs) = search needs in
-    six-is (held-word _ _ f (c .before .before .before .before .before .word-of .ensures)) (c .before .before .before .before .wide32 .ensures) refl (c .before .before .before .wide322 .ensures)
+    six-is (held-word _ _ f (c .before .before .before .before .before .word-of .ensures))
+    (c .before .before .before .before .wide32 .ensures) refl (c .before .before .before .wide322 .ensures)
     (held-word _ _ g (c .before .word-of2 .ensures)) (c .wide323 .ensures)
 
 pub late-spec : {M : Type 1} → statement M

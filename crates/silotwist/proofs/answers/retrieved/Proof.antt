@@ -8,7 +8,8 @@ use Rattle.silotwist.proofs.answers.retrieved.Tie as tie
 
 returns : tie.Need-returns
 unfolding retrievedPaper
-returns c = told retrievedPaper (c .before .before .before .before .a .given .1) (two-is (c .two .ensures) (c .before .before .wide .ensures) (c .before .wide2 .ensures))
+returns c = told retrievedPaper (c .before .before .before .before .a .given .1) (two-is (c .two .ensures) (c .before .before .wide .ensures)
+    (c .before .wide2 .ensures))
 
 returns-2 : tie.Need-returns-2
 unfolding retrievedPaper

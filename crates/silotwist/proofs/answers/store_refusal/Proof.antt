@@ -36,7 +36,8 @@ returns-7 c = told paper (c .before .before .e4 .given .1) (c .one3 .ensures)
 
 returns-8 : tie.Need-returns-8
 unfolding paper
-returns-8 c = told paper (c .before .before .before .before .e5 .given .1) (two-is (c .two .ensures) (c .before .before .wide2 .ensures) (c .before .wide3 .ensures))
+returns-8 c = told paper (c .before .before .before .before .e5 .given .1) (two-is (c .two .ensures) (c .before .before .wide2 .ensures)
+    (c .before .wide3 .ensures))
 
 pub store-refusal-spec : {M : Type 1} → statement M
 store-refusal-spec =

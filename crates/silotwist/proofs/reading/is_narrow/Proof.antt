@@ -20,7 +20,11 @@ returns : tie.Need-returns Inv-loop μ-loop
 returns c = narrow-stop _ (c .before .before .before .loop .i) _ (c .before .before .loop-test .taken) (c .before .word .ensures) (c .if1 .taken)
 
 loop-again : tie.Need-loop-again Inv-loop μ-loop
-loop-again c = (omega arith, narrow-more (c .before .before .before .before .before .args .words .now) (c .before .before .before .loop .i) _ (c .before .before .before .loop .inv .1) (c .before .word .ensures) (c .if1 .left))
+loop-again c = (
+  omega arith,
+  narrow-more (c .before .before .before .before .before .args .words .now) (c .before .before .before .loop .i) _
+      (c .before .before .before .loop .inv .1) (c .before .word .ensures) (c .if1 .left),
+)
 
 returns-2 : tie.Need-returns-2 Inv-loop μ-loop
 returns-2 c = narrow-end _ (c .before .loop .i) (c .loop-test .left) (c .before .loop .inv .1)

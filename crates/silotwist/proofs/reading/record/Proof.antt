@@ -14,10 +14,14 @@ use Rattle.silotwist.proofs.reading.record.Tie as tie
 returns : tie.Need-returns
 returns c =
     let f : SFits w64 (c .before .before .before .before .before .before .before .before .signed .result) = search needs in
-    stands-words (c .before .before .before .before .before .before .before .before .before .before .before .args .words .now) _ _ _ _ _ _ (c .word6 .ensures)
-    (toZ-ofZ f ∙ c .before .before .before .before .before .before .before .before .signed .ensures ∙ ap signed (c .before .before .before .before .before .before .before .before .before .word .ensures))
-    (c .before .before .before .before .before .before .nanos .ensures ∙ ap clipped (c .before .before .before .before .before .before .before .word2 .ensures)) (c .before .before .before .before .before .word3 .ensures)
-    (c .before .before .before .nanos2 .ensures ∙ ap clipped (c .before .before .before .before .word4 .ensures)) (c .before .is-on .ensures ∙ ap switched (c .before .before .word5 .ensures))
+    stands-words (c .before .before .before .before .before .before .before .before .before .before .before .args .words .now) _ _ _ _ _ _
+    (c .word6 .ensures)
+    (toZ-ofZ f ∙ c .before .before .before .before .before .before .before .before .signed .ensures ∙ ap signed
+    (c .before .before .before .before .before .before .before .before .before .word .ensures))
+    (c .before .before .before .before .before .before .nanos .ensures ∙ ap clipped
+    (c .before .before .before .before .before .before .before .word2 .ensures)) (c .before .before .before .before .before .word3 .ensures)
+    (c .before .before .before .nanos2 .ensures ∙ ap clipped (c .before .before .before .before .word4 .ensures)) (c .before .is-on .ensures
+    ∙ ap switched (c .before .before .word5 .ensures))
 
 pub record-spec : {M : Type 1} → statement M
 record-spec =

@@ -15,11 +15,20 @@ returns c = let p = c .before .setup-ok in simp (sym (p .ensures) ∙ not-true (
 
 returns-2 : tie.Need-returns-2
 unfolding setupOk allOf
-returns-2 c = let e = c .before .before in let p = e .before .setup-ok in simp (sym (p .ensures) ∙ not-false (p .result) (e .if1 .left), lt-leb _ _ (c .if2 .taken))
+returns-2 c = let e = c .before .before in let p = e .before .setup-ok in simp (
+  sym (p .ensures) ∙ not-false (p .result)
+      (e .if1 .left),
+  lt-leb _ _ (c .if2 .taken),
+)
 
 returns-3 : tie.Need-returns-3
 unfolding setupOk allOf
-returns-3 c = let e = c .before .before .before in let p = e .before .setup-ok in simp (sym (p .ensures) ∙ not-false (p .result) (e .if1 .left), le-leb _ _ (c .before .if2 .left), and-true)
+returns-3 c = let e = c .before .before .before in let p = e .before .setup-ok in simp (
+  sym (p .ensures) ∙ not-false (p .result)
+      (e .if1 .left),
+  le-leb _ _ (c .before .if2 .left),
+  and-true,
+)
 
 pub setup-ok-spec : {M : Type 1} → statement M
 setup-ok-spec = tie.close (tie.spec (λ c κs. search needs) returns returns-2 returns-3)

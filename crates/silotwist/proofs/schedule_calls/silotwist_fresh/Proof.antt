@@ -9,7 +9,8 @@ use Rattle.silotwist.proofs.schedule_calls.silotwist_fresh.Tie as tie
 returns : tie.Need-returns
 returns c =
     let a = c .before .before .before .before .before .before .before .args in
-    starts-no-answer (a .answer .now) (a .setup .now) (a .«record» .now) (a .store .now) (a .lens .now) (a .rows .now) (record { secs = a .clock-secs; nanos = a .clock-nanos }) (record { secs = a .margin-secs; nanos = a .margin-nanos }) (c .if1 .taken)
+    starts-no-answer (a .answer .now) (a .setup .now) (a .«record» .now) (a .store .now) (a .lens .now) (a .rows .now)
+    (record { secs = a .clock-secs; nanos = a .clock-nanos }) (record { secs = a .margin-secs; nanos = a .margin-nanos }) (c .if1 .taken)
 
 put-requires : tie.Need-put-requires
 put-requires c κs = c .before .before .before .before .if1 .left
@@ -17,7 +18,10 @@ put-requires c κs = c .before .before .before .before .if1 .left
 returns-2 : tie.Need-returns-2
 returns-2 c =
     let a = c .before .before .before .before .before .before .before .before .before .before .before .before .before .before .args in
-    starts-short (a .answer .now) (a .setup .now) (a .«record» .now) (a .store .now) (a .lens .now) (a .rows .now) (record { secs = a .clock-secs; nanos = a .clock-nanos }) (record { secs = a .margin-secs; nanos = a .margin-nanos }) _ _ _ _ (c .before .before .before .before .before .before .before .if1 .left) (c .before .before .before .before .before .before .setup .ensures) (c .before .before .before .before .before .if2 .taken)
+    starts-short (a .answer .now) (a .setup .now) (a .«record» .now) (a .store .now) (a .lens .now) (a .rows .now)
+    (record { secs = a .clock-secs; nanos = a .clock-nanos }) (record { secs = a .margin-secs; nanos = a .margin-nanos }) _ _ _ _
+    (c .before .before .before .before .before .before .before .if1 .left) (c .before .before .before .before .before .before .setup .ensures)
+    (c .before .before .before .before .before .if2 .taken)
     (c .before .before .before .short-record .ensures) (c .before .before .put .ensures .0) (c .before .before .put .ensures .1)
 
 put-requires-2 : tie.Need-put-requires-2
@@ -26,10 +30,13 @@ put-requires-2 c κs = c .before .before .before .before .before .before .before
 returns-3 : tie.Need-returns-3
 returns-3 c =
     let a = c .before .before .before .before .before .before .before .before .before .before .before .before .before .before .before .before .before .before .before .before .before .before .before .before .before .before .before .before .before .before .before .before .args in
-    starts-at (a .answer .now) (a .setup .now) (a .«record» .now) (a .store .now) (a .lens .now) (a .rows .now) _ (record { secs = a .clock-secs; nanos = a .clock-nanos }) (record { secs = a .margin-secs; nanos = a .margin-nanos }) (held-time _ _ _ (c .before .before .before .before .before .before .before .before .before .before .before .before .before .before .before .before .before .before .before .before .before .before .before .before .before .before .before .before .before .before .before .before .fits .clock-secs) (c .before .before .before .before .before .before .before .before .before .before .before .before .before .before .before .before .before .before .before .before .time .ensures)) _ _ _ _ _ _ _ _ _ _ _
+    starts-at (a .answer .now) (a .setup .now) (a .«record» .now) (a .store .now) (a .lens .now) (a .rows .now) _
+    (record { secs = a .clock-secs; nanos = a .clock-nanos }) (record { secs = a .margin-secs; nanos = a .margin-nanos }) (held-time _ _ _
+    (c .before .before .before .before .before .before .before .before .before .before .before .before .before .before .before .before .before .before .before .before .before .before .before .before .before .before .before .before .before .before .before .before .fits .clock-secs) (c .before .before .before .before .before .before .before .before .before .before .before .before .before .before .before .before .before .before .before .before .time .ensures)) _ _ _ _ _ _ _ _ _ _ _
     (c .before .before .before .before .before .before .before .before .before .before .before .before .before .before .before .before .before .before .before .before .before .before .before .before .before .if1 .left) (c .before .before .before .before .before .before .before .before .before .before .before .before .before .before .before .before .before .before .before .before .before .before .before .before .setup .ensures) (c .before .before .before .before .before .before .before .before .before .before .before .before .before .before .before .before .before .before .before .before .before .before .before .if2 .left)
     (c .before .before .before .before .before .before .before .before .before .before .before .before .before .before .before .before .fresh-start .ensures)
-    (c .before .before .before .before .before .before .before .before .done .ensures) (c .before .before .put2 .ensures .0) (c .before .before .put2 .ensures .1) (c .before .before .before .before .before .before .all .ensures)
+    (c .before .before .before .before .before .before .before .before .done .ensures) (c .before .before .put2 .ensures .0)
+    (c .before .before .put2 .ensures .1) (c .before .before .before .before .before .before .all .ensures)
 
 pub silotwist-fresh-spec : {M : Type 1} → statement M
 silotwist-fresh-spec =

@@ -11,7 +11,9 @@ use Rattle.silotwist.proofs.schedule_calls.silotwist_insert_unwrapped.T
 returns : tie.Need-returns
 returns c =
     let a = c .before .before .before .before .before .before .before .before .args in
-    changes-no-answer (a .answer .now) (a .setup .now) (a .«record» .now) (a .store .now) (a .lens .now) (a .rows .now) (λ su. insertUnwrappedIn su (record { secs = a .secs; nanos = a .nanos }) (a .packet .now)) (countWritten (a .«record» .now)) (c .if1 .taken)
+    changes-no-answer (a .answer .now) (a .setup .now) (a .«record» .now) (a .store .now) (a .lens .now) (a .rows .now)
+    (λ su. insertUnwrappedIn su (record { secs = a .secs; nanos = a .nanos }) (a .packet .now)) (countWritten (a .«record» .now))
+    (c .if1 .taken)
 
 put-requires : tie.Need-put-requires
 put-requires c κs = c .before .before .before .before .if1 .left
@@ -19,7 +21,10 @@ put-requires c κs = c .before .before .before .before .if1 .left
 returns-2 : tie.Need-returns-2
 returns-2 c =
     let a = c .before .before .before .before .before .before .before .before .before .before .before .before .before .before .before .args in
-    changes-short (a .answer .now) (a .setup .now) (a .«record» .now) (a .store .now) (a .lens .now) (a .rows .now) (λ su. insertUnwrappedIn su (record { secs = a .secs; nanos = a .nanos }) (a .packet .now)) (countWritten (a .«record» .now)) _ _ _ _ (c .before .before .before .before .before .before .before .if1 .left) (c .before .before .before .before .before .before .setup .ensures) (c .before .before .before .before .before .if2 .taken)
+    changes-short (a .answer .now) (a .setup .now) (a .«record» .now) (a .store .now) (a .lens .now) (a .rows .now) (λ su. insertUnwrappedIn su
+    (record { secs = a .secs; nanos = a .nanos }) (a .packet .now)) (countWritten (a .«record» .now)) _ _ _ _
+    (c .before .before .before .before .before .before .before .if1 .left) (c .before .before .before .before .before .before .setup .ensures)
+    (c .before .before .before .before .before .if2 .taken)
     (c .before .before .before .short-record .ensures) (c .before .before .put .ensures .0) (c .before .before .put .ensures .1)
 
 put-requires-2 : tie.Need-put-requires-2
@@ -28,10 +33,13 @@ put-requires-2 c κs = c .before .before .before .before .before .before .before
 returns-3 : tie.Need-returns-3
 returns-3 c =
     let a = c .before .before .before .before .before .before .before .before .before .before .before .before .before .before .before .before .before .before .before .before .before .before .before .before .before .before .before .before .before .before .before .before .before .args in
-    changes-at (a .answer .now) (a .setup .now) (a .«record» .now) (a .store .now) (a .lens .now) (a .rows .now) (λ t su. insertUnwrappedIn su t (a .packet .now)) _ (record { secs = a .secs; nanos = a .nanos }) (held-time _ _ _ (c .before .before .before .before .before .before .before .before .before .before .before .before .before .before .before .before .before .before .before .before .before .before .before .before .before .before .before .before .before .before .before .before .before .fits .secs) (c .before .before .before .before .before .before .before .before .before .before .before .before .before .before .before .before .before .before .before .before .time .ensures)) _ _ _ _ _ _ _ _ _ _ _
+    changes-at (a .answer .now) (a .setup .now) (a .«record» .now) (a .store .now) (a .lens .now) (a .rows .now) (λ t su. insertUnwrappedIn su t
+    (a .packet .now)) _ (record { secs = a .secs; nanos = a .nanos }) (held-time _ _ _
+    (c .before .before .before .before .before .before .before .before .before .before .before .before .before .before .before .before .before .before .before .before .before .before .before .before .before .before .before .before .before .before .before .before .before .fits .secs) (c .before .before .before .before .before .before .before .before .before .before .before .before .before .before .before .before .before .before .before .before .time .ensures)) _ _ _ _ _ _ _ _ _ _ _
     (c .before .before .before .before .before .before .before .before .before .before .before .before .before .before .before .before .before .before .before .before .before .before .before .before .before .if1 .left) (c .before .before .before .before .before .before .before .before .before .before .before .before .before .before .before .before .before .before .before .before .before .before .before .before .setup .ensures) (c .before .before .before .before .before .before .before .before .before .before .before .before .before .before .before .before .before .before .before .before .before .before .before .if2 .left) (c .before .before .before .before .before .before .before .before .before .before .before .before .before .before .before .before .before .before .before .before .before .«record» .ensures)
     (c .before .before .before .before .before .before .before .before .before .before .before .before .before .before .before .before .insert-unwrapped-tc .ensures)
-    (c .before .before .before .before .before .before .before .before .inserted .ensures) (c .before .before .put2 .ensures .0) (c .before .before .put2 .ensures .1) (c .before .before .before .before .before .before .count .ensures)
+    (c .before .before .before .before .before .before .before .before .inserted .ensures) (c .before .before .put2 .ensures .0)
+    (c .before .before .put2 .ensures .1) (c .before .before .before .before .before .before .count .ensures)
 
 pub silotwist-insert-unwrapped-spec : {M : Type 1} → statement M
 silotwist-insert-unwrapped-spec =

@@ -10,7 +10,8 @@ use Rattle.silotwist.proofs.schedule_calls.silotwist_insert_wrapped.Tie
 returns : tie.Need-returns
 returns c =
     let a = c .before .before .before .before .before .before .before .before .args in
-    changes-no-answer (a .answer .now) (a .setup .now) (a .«record» .now) (a .store .now) (a .lens .now) (a .rows .now) (λ su. insertWrappedIn su (a .packet .now)) (countWritten (a .«record» .now)) (c .if1 .taken)
+    changes-no-answer (a .answer .now) (a .setup .now) (a .«record» .now) (a .store .now) (a .lens .now) (a .rows .now) (λ su. insertWrappedIn su
+    (a .packet .now)) (countWritten (a .«record» .now)) (c .if1 .taken)
 
 put-requires : tie.Need-put-requires
 put-requires c κs = c .before .before .before .before .if1 .left
@@ -18,7 +19,9 @@ put-requires c κs = c .before .before .before .before .if1 .left
 returns-2 : tie.Need-returns-2
 returns-2 c =
     let a = c .before .before .before .before .before .before .before .before .before .before .before .before .before .before .before .args in
-    changes-short (a .answer .now) (a .setup .now) (a .«record» .now) (a .store .now) (a .lens .now) (a .rows .now) (λ su. insertWrappedIn su (a .packet .now)) (countWritten (a .«record» .now)) _ _ _ _ (c .before .before .before .before .before .before .before .if1 .left) (c .before .before .before .before .before .before .setup .ensures) (c .before .before .before .before .before .if2 .taken)
+    changes-short (a .answer .now) (a .setup .now) (a .«record» .now) (a .store .now) (a .lens .now) (a .rows .now) (λ su. insertWrappedIn su
+    (a .packet .now)) (countWritten (a .«record» .now)) _ _ _ _ (c .before .before .before .before .before .before .before .if1 .left)
+    (c .before .before .before .before .before .before .setup .ensures) (c .before .before .before .before .before .if2 .taken)
     (c .before .before .before .short-record .ensures) (c .before .before .put .ensures .0) (c .before .before .put .ensures .1)
 
 put-requires-2 : tie.Need-put-requires-2
@@ -27,10 +30,12 @@ put-requires-2 c κs = c .before .before .before .before .before .before .before
 returns-3 : tie.Need-returns-3
 returns-3 c =
     let a = c .before .before .before .before .before .before .before .before .before .before .before .before .before .before .before .before .before .before .before .before .before .before .before .before .before .before .before .before .before .before .before .before .args in
-    changes (a .answer .now) (a .setup .now) (a .«record» .now) (a .store .now) (a .lens .now) (a .rows .now) (λ su. insertWrappedIn su (a .packet .now)) _ _ _ _ _ _ _ _ _ _ _
+    changes (a .answer .now) (a .setup .now) (a .«record» .now) (a .store .now) (a .lens .now) (a .rows .now) (λ su. insertWrappedIn su
+    (a .packet .now)) _ _ _ _ _ _ _ _ _ _ _
     (c .before .before .before .before .before .before .before .before .before .before .before .before .before .before .before .before .before .before .before .before .before .before .before .before .if1 .left) (c .before .before .before .before .before .before .before .before .before .before .before .before .before .before .before .before .before .before .before .before .before .before .before .setup .ensures) (c .before .before .before .before .before .before .before .before .before .before .before .before .before .before .before .before .before .before .before .before .before .before .if2 .left) (c .before .before .before .before .before .before .before .before .before .before .before .before .before .before .before .before .before .before .before .before .«record» .ensures)
     (c .before .before .before .before .before .before .before .before .before .before .before .before .before .before .before .before .insert-wrapped-tc .ensures)
-    (c .before .before .before .before .before .before .before .before .inserted .ensures) (c .before .before .put2 .ensures .0) (c .before .before .put2 .ensures .1) (c .before .before .before .before .before .before .count .ensures)
+    (c .before .before .before .before .before .before .before .before .inserted .ensures) (c .before .before .put2 .ensures .0)
+    (c .before .before .put2 .ensures .1) (c .before .before .before .before .before .before .count .ensures)
 
 pub silotwist-insert-wrapped-spec : {M : Type 1} → statement M
 silotwist-insert-wrapped-spec =

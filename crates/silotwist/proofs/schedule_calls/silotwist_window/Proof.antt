@@ -12,7 +12,9 @@ use Rattle.silotwist.proofs.schedule_calls.silotwist_window.Tie as tie
 returns : tie.Need-returns
 returns c =
     let a = c .before .before .before .before .before .before .before .args in
-    looks-no-answer (a .answer .now) (a .setup .now) (a .«record» .now) (a .store .now) (a .lens .now) (a .rows .now) (λ su. retrieveIn (windowFrom (a .has-from) (record { secs = a .from-secs; nanos = a .from-nanos }) (a .has-to) (record { secs = a .to-secs; nanos = a .to-nanos }))) (c .if1 .taken)
+    looks-no-answer (a .answer .now) (a .setup .now) (a .«record» .now) (a .store .now) (a .lens .now) (a .rows .now) (λ su. retrieveIn
+    (windowFrom (a .has-from) (record { secs = a .from-secs; nanos = a .from-nanos }) (a .has-to)
+    (record { secs = a .to-secs; nanos = a .to-nanos }))) (c .if1 .taken)
 
 put-requires : tie.Need-put-requires
 put-requires c κs = c .before .before .before .before .if1 .left
@@ -20,7 +22,10 @@ put-requires c κs = c .before .before .before .before .if1 .left
 returns-2 : tie.Need-returns-2
 returns-2 c =
     let a = c .before .before .before .before .before .before .before .before .before .before .before .before .before .before .args in
-    looks-short (a .answer .now) (a .setup .now) (a .«record» .now) (a .store .now) (a .lens .now) (a .rows .now) (λ su. retrieveIn (windowFrom (a .has-from) (record { secs = a .from-secs; nanos = a .from-nanos }) (a .has-to) (record { secs = a .to-secs; nanos = a .to-nanos }))) _ _ _ _ (c .before .before .before .before .before .before .before .if1 .left) (c .before .before .before .before .before .before .setup .ensures) (c .before .before .before .before .before .if2 .taken)
+    looks-short (a .answer .now) (a .setup .now) (a .«record» .now) (a .store .now) (a .lens .now) (a .rows .now) (λ su. retrieveIn (windowFrom
+    (a .has-from) (record { secs = a .from-secs; nanos = a .from-nanos }) (a .has-to)
+    (record { secs = a .to-secs; nanos = a .to-nanos }))) _ _ _ _ (c .before .before .before .before .before .before .before .if1 .left)
+    (c .before .before .before .before .before .before .setup .ensures) (c .before .before .before .before .before .if2 .taken)
     (c .before .before .before .short-record .ensures) (c .before .before .put .ensures .0) (c .before .before .put .ensures .1)
 
 put-requires-2 : tie.Need-put-requires-2
@@ -29,8 +34,15 @@ put-requires-2 c κs = c .before .before .before .before .before .before .before
 returns-3 : tie.Need-returns-3
 returns-3 c =
     let a = c .before .before .before .before .before .before .before .before .before .before .before .before .before .before .before .before .before .before .before .args in
-    looks-at (a .answer .now) (a .setup .now) (a .«record» .now) (a .store .now) (a .lens .now) (a .rows .now) (λ v su. retrieveIn v) _ (windowFrom (a .has-from) (record { secs = a .from-secs; nanos = a .from-nanos }) (a .has-to) (record { secs = a .to-secs; nanos = a .to-nanos })) (c .before .before .before .before .before .before .window .ensures ∙ ap₂ (λ x y. windowFrom (a .has-from) x (a .has-to) y) (held-time _ _ _ (c .before .before .before .before .before .before .before .before .before .before .before .before .before .before .before .before .before .before .before .fits .from-secs) (c .before .before .before .before .before .before .before .before .time .ensures)) (held-time _ _ _ (c .before .before .before .before .before .before .before .before .before .before .before .before .before .before .before .before .before .before .before .fits .to-secs) (c .before .before .before .before .before .before .before .time2 .ensures))) _ _ _ _ _ _
-    (c .before .before .before .before .before .before .before .before .before .before .before .before .if1 .left) (c .before .before .before .before .before .before .before .before .before .before .before .setup .ensures) (c .before .before .before .before .before .before .before .before .before .before .if2 .left) (c .before .before .before .before .before .before .before .before .before .«record» .ensures)
+    looks-at (a .answer .now) (a .setup .now) (a .«record» .now) (a .store .now) (a .lens .now) (a .rows .now) (λ v su. retrieveIn v) _
+    (windowFrom (a .has-from) (record { secs = a .from-secs; nanos = a .from-nanos }) (a .has-to)
+    (record { secs = a .to-secs; nanos = a .to-nanos })) (c .before .before .before .before .before .before .window .ensures ∙ ap₂
+    (λ x y. windowFrom (a .has-from) x (a .has-to) y) (held-time _ _ _
+    (c .before .before .before .before .before .before .before .before .before .before .before .before .before .before .before .before .before .before .before .fits .from-secs) (c .before .before .before .before .before .before .before .before .time .ensures)) (held-time _ _ _ (c .before .before .before .before .before .before .before .before .before .before .before .before .before .before .before .before .before .before .before .fits .to-secs) (c .before .before .before .before .before .before .before .time2 .ensures))) _ _ _ _ _ _
+    (c .before .before .before .before .before .before .before .before .before .before .before .before .if1 .left)
+    (c .before .before .before .before .before .before .before .before .before .before .before .setup .ensures)
+    (c .before .before .before .before .before .before .before .before .before .before .if2 .left)
+    (c .before .before .before .before .before .before .before .before .before .«record» .ensures)
     (c .before .before .before .before .before .retrieve-by-time-filter .ensures)
     (c .before .before .before .before .retrieved .ensures) (c .before .before .put2 .ensures .0) (c .before .before .put2 .ensures .1)
 

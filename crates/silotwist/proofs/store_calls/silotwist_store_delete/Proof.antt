@@ -7,13 +7,17 @@ use Rattle.silotwist.proofs.store_calls.silotwist_store_delete.Statemen
 use Rattle.silotwist.proofs.store_calls.silotwist_store_delete.Tie as tie
 
 returns : tie.Need-returns
-returns c = let a = c .before .before .before .before .before .args in stores-short (a .answer .now) (a .setup .now) (a .store .now) (a .lens .now) (λ su ps. deleteIn ps (a .address)) (c .if1 .taken)
+returns c = let a = c .before .before .before .before .before .args in stores-short (a .answer .now) (a .setup .now) (a .store .now)
+    (a .lens .now) (λ su ps. deleteIn ps (a .address)) (c .if1 .taken)
 
 returns-2 : tie.Need-returns-2
 returns-2 c =
     let a = c .before .before .before .before .before .before .before .before .before .before .before .before .before .before .before .before .before .before .args in
-    stores (a .answer .now) (a .setup .now) (a .store .now) (a .lens .now) (λ su ps. deleteIn ps (a .address)) _ _ _ _ _ _ _ (c .before .before .before .before .before .before .before .before .before .before .before .before .before .if1 .left)
-    (c .before .before .before .before .before .before .before .before .before .before .before .before .store-setup .ensures) (c .before .before .before .before .before .before .before .before .before .delete .ensures) (c .before .before .before .before .deleted .ensures)
+    stores (a .answer .now) (a .setup .now) (a .store .now) (a .lens .now) (λ su ps. deleteIn ps (a .address)) _ _ _ _ _ _ _
+    (c .before .before .before .before .before .before .before .before .before .before .before .before .before .if1 .left)
+    (c .before .before .before .before .before .before .before .before .before .before .before .before .store-setup .ensures)
+    (c .before .before .before .before .before .before .before .before .before .delete .ensures)
+    (c .before .before .before .before .deleted .ensures)
     (c .before .before .put .ensures .0) (c .before .before .put .ensures .1)
 
 pub silotwist-store-delete-spec : {M : Type 1} → statement M

@@ -30,8 +30,12 @@ returns : tie.Need-returns
 returns c =
     let f : SFits w64 (c .before .before .before .before .before .before .before .before .before .before .args .r .clock .secs) = search needs in
     written _ _ _ _ (c .before .before .before .before .before .before .before .before .if1 .taken)
-    (six-are (c .before .before .before .before .before .before .before .before .before .before .args .«record» .now) (c .before .before .before .before .before .before .before .before .before .before .pre) (c .before .before .before .before .before .wide .ensures) (held-word _ _ f (c .before .before .before .word-of .ensures)) (c .before .before .wide32 .ensures)
-    refl (c .before .wide322 .ensures) (bit-is (c .before .before .before .before .before .before .before .before .before .before .args .r .enabled)))
+    (six-are (c .before .before .before .before .before .before .before .before .before .before .args .«record» .now)
+    (c .before .before .before .before .before .before .before .before .before .before .pre)
+    (c .before .before .before .before .before .wide .ensures) (held-word _ _ f (c .before .before .before .word-of .ensures))
+    (c .before .before .wide32 .ensures)
+    refl (c .before .wide322 .ensures) (bit-is
+    (c .before .before .before .before .before .before .before .before .before .before .args .r .enabled)))
 
 returns-2 : tie.Need-returns-2
 returns-2 c = unwritten _ _ _ (c .if1 .left)
