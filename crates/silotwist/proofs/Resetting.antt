@@ -16,7 +16,8 @@ use Rattle.table.specs.Entries.{relaid}
 use Rattle.time.specs.Time.{inRange, marginInRange}
 use Rattle.time.specs.declared.Margin.{Margin}
 use Rattle.time.specs.declared.UnixTime.{UnixTime}
-use Rattle.silotwist.proofs.ScheduleCalls.{carries, changes-no-answer, changes-short, faces-done, faces-no-answer, faces-short, stands-count, worded-is}
+use Rattle.silotwist.proofs.ScheduleCalls.{carries, changes-no-answer, changes-short, stands-count}
+use Rattle.silotwist.proofs.ScheduleCalls.{faces-done, faces-no-answer, faces-short, worded-is}
 use Rattle.silotwist.proofs.Written.{set-same}
 use Rattle.silotwist.specs.Inside.{ReadsSetup, Stands, eight, shortPaper, wordsOf, writtenIf}
 use Rattle.silotwist.specs.Reading.{recordFrom, word}

@@ -8,7 +8,8 @@ use Rattle.deletions.specs.declared.Last.the-variants as La
 use Rattle.store.specs.Refusals.{paper as storePaper}
 use Rattle.store.specs.declared.StoreIdError.the-variants.{InvalidPacketIdx, InvalidSubpool}
 use Rattle.store.specs.declared.StoreRefusal.{StoreRefusal}
-use Rattle.store.specs.declared.StoreRefusal.the-variants.{BadBuffers, BadSetup, BufferTooSmall, DataDoesNotExist, DataTooLarge, InvalidStoreId, StateDamaged, StoreFull}
+use Rattle.store.specs.declared.StoreRefusal.the-variants.{BadBuffers, BadSetup, BufferTooSmall, DataDoesNotExist}
+use Rattle.store.specs.declared.StoreRefusal.the-variants.{DataTooLarge, InvalidStoreId, StateDamaged, StoreFull}
 use Rattle.silotwist.specs.Face.{padded}
 use Rattle.silotwist.specs.Inside.{carrying, wordsOf}
 use Rattle.silotwist.specs.declared.Words.{Words}

@@ -66,7 +66,8 @@ pub extern "C" fn silotwist_window(
 ) -> u32
     ensures { λ n. ⌜ Answers
         (judgedCall (now (answer .entry)) (now (setup .entry)) (now («record» .entry)) (now (store .entry)) (now (lens .entry)) (now (rows .entry))
-        (λ su. retrieveIn (windowFrom «has_from» (record { secs = «from_secs»; nanos = «from_nanos» }) «has_to» (record { secs = «to_secs»; nanos = «to_nanos» }))))
+        (λ su. retrieveIn (windowFrom
+        «has_from» (record { secs = «from_secs»; nanos = «from_nanos» }) «has_to» (record { secs = «to_secs»; nanos = «to_nanos» }))))
         (now (answer .entry)) n (now (answer .exit)) ⌝ }
 {
     if answer.len() < 8 {
@@ -217,7 +218,8 @@ pub extern "C" fn silotwist_delete_window(
 ) -> u32
     ensures { λ n. ⌜ ScheduleFaces (now (setup .entry)) (word (now («record» .entry)) 0)
         (judgedCall (now (answer .entry)) (now (setup .entry)) (now («record» .entry)) (now (store .entry)) (now (lens .entry)) (now (rows .entry))
-        (λ su. deleteWindowIn (windowFrom «has_from» (record { secs = «from_secs»; nanos = «from_nanos» }) «has_to» (record { secs = «to_secs»; nanos = «to_nanos» }))))
+        (λ su. deleteWindowIn (windowFrom
+        «has_from» (record { secs = «from_secs»; nanos = «from_nanos» }) «has_to» (record { secs = «to_secs»; nanos = «to_nanos» }))))
         (countWritten (now («record» .entry)))
         (now («record» .entry)) (now (store .entry)) (now (lens .entry)) (now (rows .entry)) (now (answer .entry)) n
         (now («record» .exit)) (now (store .exit)) (now (lens .exit)) (now (rows .exit)) (now (answer .exit)) ⌝ }

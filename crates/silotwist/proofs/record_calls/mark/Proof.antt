@@ -21,12 +21,20 @@ returns-2 c = record-short (c .before .before .before .before .before .before .b
 
 returns-3 : tie.Need-returns-3
 returns-3 c =
-    mark-face (c .before .before .before .before .before .before .before .before .before .before .before .before .before .before .before .before .args .answer .now) (c .before .before .before .before .before .before .before .before .before .before .before .before .before .before .before .before .args .«record» .now) _ (c .before .before .before .before .before .before .before .before .before .before .«record» .ensures) _ _ (c .before .before .before .before .before .before .before .before .done .ensures) _ _ _
-    (c .before .before .before .before .before .before .before .before .before .before .before .before .before .if1 .left)
-    (c .before .before .before .before .before .before .before .before .before .before .before .before .if2 .left)
-    (c .before .before .put2 .ensures .0) (c .before .before .put2 .ensures .1) _
-    (c .before .before .before .before .before .before .before .before .before .marked .ensures)
-    (c .before .before .before .before .before .before .mark .ensures)
+    let p1 = c .before .before in
+    let p2 = p1 .before .before .before .before in
+    let p3 = p2 .before .before in
+    let p4 = p3 .before in
+    let p5 = p4 .before in
+    let p6 = p5 .before .before in
+    let p7 = p6 .before in
+    let p8 = p7 .before .before .before in
+    mark-face (p8 .args .answer .now) (p8 .args .«record» .now) _ (p5 .«record» .ensures) _ _ (p3 .done .ensures) _ _ _
+    (p7 .if1 .left)
+    (p6 .if2 .left)
+    (p1 .put2 .ensures .0) (p1 .put2 .ensures .1) _
+    (p4 .marked .ensures)
+    (p2 .mark .ensures)
 
 pub mark-spec : {M : Type 1} → statement M
 mark-spec =

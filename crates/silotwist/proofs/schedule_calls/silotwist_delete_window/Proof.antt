@@ -31,19 +31,36 @@ returns-2 c =
     (c .before .before .before .short-record .ensures) (c .before .before .put .ensures .0) (c .before .before .put .ensures .1)
 
 put-requires-2 : tie.Need-put-requires-2
-put-requires-2 c κs = c .before .before .before .before .before .before .before .before .before .before .before .before .before .before .before .before .before .before .before .before .before .before .before .before .if1 .left
+put-requires-2 c κs =
+    let q = c .before .before .before .before .before .before .before .before .before .before .before .before in
+    let p1 = q .before .before .before .before .before .before .before .before .before .before .before .before in
+    p1 .if1 .left
 
 returns-3 : tie.Need-returns-3
 returns-3 c =
-    let a = c .before .before .before .before .before .before .before .before .before .before .before .before .before .before .before .before .before .before .before .before .before .before .before .before .before .before .before .before .before .before .before .before .before .before .args in
+    let p1 = c .before .before in
+    let p2 = p1 .before .before .before .before in
+    let p3 = p2 .before .before in
+    let p4 = p3 .before .before .before .before .before .before .before .before in
+    let p5 = p4 .before .before .before .before in
+    let p6 = p5 .before in
+    let p7 = p6 .before in
+    let p8 = p7 .before in
+    let p9 = p8 .before .before in
+    let p10 = p9 .before in
+    let p11 = p10 .before in
+    let p12 = p11 .before .before .before .before .before .before .before in
+    let a = p12 .args in
+    let from = held-time (a .from-secs) (a .from-nanos) _ (p12 .fits .from-secs) (p7 .time .ensures) in
+    let to = held-time (a .to-secs) (a .to-nanos) _ (p12 .fits .to-secs) (p6 .time2 .ensures) in
     changes-at (a .answer .now) (a .setup .now) (a .«record» .now) (a .store .now) (a .lens .now) (a .rows .now) (λ v su. deleteWindowIn v) _
     (windowFrom (a .has-from) (record { secs = a .from-secs; nanos = a .from-nanos }) (a .has-to)
     (record { secs = a .to-secs; nanos = a .to-nanos }))
-    (c .before .before .before .before .before .before .before .before .before .before .before .before .before .before .before .before .before .before .before .before .window .ensures ∙ ap₂ (λ x y. windowFrom (a .has-from) x (a .has-to) y) (held-time _ _ _ (c .before .before .before .before .before .before .before .before .before .before .before .before .before .before .before .before .before .before .before .before .before .before .before .before .before .before .before .before .before .before .before .before .before .before .fits .from-secs) (c .before .before .before .before .before .before .before .before .before .before .before .before .before .before .before .before .before .before .before .before .before .before .time .ensures)) (held-time _ _ _ (c .before .before .before .before .before .before .before .before .before .before .before .before .before .before .before .before .before .before .before .before .before .before .before .before .before .before .before .before .before .before .before .before .before .before .fits .to-secs) (c .before .before .before .before .before .before .before .before .before .before .before .before .before .before .before .before .before .before .before .before .before .time2 .ensures))) _ _ _ _ _ _ _ _ _ _ _
-    (c .before .before .before .before .before .before .before .before .before .before .before .before .before .before .before .before .before .before .before .before .before .before .before .before .before .before .before .if1 .left) (c .before .before .before .before .before .before .before .before .before .before .before .before .before .before .before .before .before .before .before .before .before .before .before .before .before .before .setup .ensures) (c .before .before .before .before .before .before .before .before .before .before .before .before .before .before .before .before .before .before .before .before .before .before .before .before .before .if2 .left) (c .before .before .before .before .before .before .before .before .before .before .before .before .before .before .before .before .before .before .before .before .before .before .before .«record» .ensures)
-    (c .before .before .before .before .before .before .before .before .before .before .before .before .before .before .before .before .delete-by-time-filter .ensures)
-    (c .before .before .before .before .before .before .before .before .cleared .ensures) (c .before .before .put2 .ensures .0)
-    (c .before .before .put2 .ensures .1) (c .before .before .before .before .before .before .count .ensures)
+    (p5 .window .ensures ∙ ap₂ (λ x y. windowFrom (a .has-from) x (a .has-to) y) from to) _ _ _ _ _ _ _ _ _ _ _
+    (p11 .if1 .left) (p10 .setup .ensures) (p9 .if2 .left) (p8 .«record» .ensures)
+    (p4 .delete-by-time-filter .ensures)
+    (p3 .cleared .ensures) (p1 .put2 .ensures .0)
+    (p1 .put2 .ensures .1) (p2 .count .ensures)
 
 pub silotwist-delete-window-spec : {M : Type 1} → statement M
 silotwist-delete-window-spec =

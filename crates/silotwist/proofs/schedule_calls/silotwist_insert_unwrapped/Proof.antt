@@ -28,18 +28,31 @@ returns-2 c =
     (c .before .before .before .short-record .ensures) (c .before .before .put .ensures .0) (c .before .before .put .ensures .1)
 
 put-requires-2 : tie.Need-put-requires-2
-put-requires-2 c κs = c .before .before .before .before .before .before .before .before .before .before .before .before .before .before .before .before .before .before .before .before .before .before .if1 .left
+put-requires-2 c κs =
+    let q = c .before .before .before .before .before .before .before .before .before .before .before .before in
+    let p1 = q .before .before .before .before .before .before .before .before .before .before in
+    p1 .if1 .left
 
 returns-3 : tie.Need-returns-3
 returns-3 c =
-    let a = c .before .before .before .before .before .before .before .before .before .before .before .before .before .before .before .before .before .before .before .before .before .before .before .before .before .before .before .before .before .before .before .before .before .args in
+    let p1 = c .before .before in
+    let p2 = p1 .before .before .before .before in
+    let p3 = p2 .before .before in
+    let p4 = p3 .before .before .before .before .before .before .before .before in
+    let p5 = p4 .before .before .before .before in
+    let p6 = p5 .before in
+    let p7 = p6 .before .before in
+    let p8 = p7 .before in
+    let p9 = p8 .before in
+    let p10 = p9 .before .before .before .before .before .before .before .before in
+    let a = p10 .args in
     changes-at (a .answer .now) (a .setup .now) (a .«record» .now) (a .store .now) (a .lens .now) (a .rows .now) (λ t su. insertUnwrappedIn su t
     (a .packet .now)) _ (record { secs = a .secs; nanos = a .nanos }) (held-time _ _ _
-    (c .before .before .before .before .before .before .before .before .before .before .before .before .before .before .before .before .before .before .before .before .before .before .before .before .before .before .before .before .before .before .before .before .before .fits .secs) (c .before .before .before .before .before .before .before .before .before .before .before .before .before .before .before .before .before .before .before .before .time .ensures)) _ _ _ _ _ _ _ _ _ _ _
-    (c .before .before .before .before .before .before .before .before .before .before .before .before .before .before .before .before .before .before .before .before .before .before .before .before .before .if1 .left) (c .before .before .before .before .before .before .before .before .before .before .before .before .before .before .before .before .before .before .before .before .before .before .before .before .setup .ensures) (c .before .before .before .before .before .before .before .before .before .before .before .before .before .before .before .before .before .before .before .before .before .before .before .if2 .left) (c .before .before .before .before .before .before .before .before .before .before .before .before .before .before .before .before .before .before .before .before .before .«record» .ensures)
-    (c .before .before .before .before .before .before .before .before .before .before .before .before .before .before .before .before .insert-unwrapped-tc .ensures)
-    (c .before .before .before .before .before .before .before .before .inserted .ensures) (c .before .before .put2 .ensures .0)
-    (c .before .before .put2 .ensures .1) (c .before .before .before .before .before .before .count .ensures)
+    (p10 .fits .secs) (p5 .time .ensures)) _ _ _ _ _ _ _ _ _ _ _
+    (p9 .if1 .left) (p8 .setup .ensures) (p7 .if2 .left) (p6 .«record» .ensures)
+    (p4 .insert-unwrapped-tc .ensures)
+    (p3 .inserted .ensures) (p1 .put2 .ensures .0)
+    (p1 .put2 .ensures .1) (p2 .count .ensures)
 
 pub silotwist-insert-unwrapped-spec : {M : Type 1} → statement M
 silotwist-insert-unwrapped-spec =

@@ -33,18 +33,29 @@ put-requires-2 c κs = c .before .before .before .before .before .before .before
 
 returns-3 : tie.Need-returns-3
 returns-3 c =
-    let a = c .before .before .before .before .before .before .before .before .before .before .before .before .before .before .before .before .before .before .before .args in
+    let p1 = c .before .before in
+    let p2 = p1 .before .before in
+    let p3 = p2 .before in
+    let p4 = p3 .before in
+    let p5 = p4 .before in
+    let p6 = p5 .before in
+    let p7 = p6 .before in
+    let p8 = p7 .before in
+    let p9 = p8 .before in
+    let p10 = p9 .before in
+    let p11 = p10 .before .before .before .before .before .before .before in
+    let a = p11 .args in
     looks-at (a .answer .now) (a .setup .now) (a .«record» .now) (a .store .now) (a .lens .now) (a .rows .now) (λ v su. retrieveIn v) _
     (windowFrom (a .has-from) (record { secs = a .from-secs; nanos = a .from-nanos }) (a .has-to)
-    (record { secs = a .to-secs; nanos = a .to-nanos })) (c .before .before .before .before .before .before .window .ensures ∙ ap₂
+    (record { secs = a .to-secs; nanos = a .to-nanos })) (p4 .window .ensures ∙ ap₂
     (λ x y. windowFrom (a .has-from) x (a .has-to) y) (held-time _ _ _
-    (c .before .before .before .before .before .before .before .before .before .before .before .before .before .before .before .before .before .before .before .fits .from-secs) (c .before .before .before .before .before .before .before .before .time .ensures)) (held-time _ _ _ (c .before .before .before .before .before .before .before .before .before .before .before .before .before .before .before .before .before .before .before .fits .to-secs) (c .before .before .before .before .before .before .before .time2 .ensures))) _ _ _ _ _ _
-    (c .before .before .before .before .before .before .before .before .before .before .before .before .if1 .left)
-    (c .before .before .before .before .before .before .before .before .before .before .before .setup .ensures)
-    (c .before .before .before .before .before .before .before .before .before .before .if2 .left)
-    (c .before .before .before .before .before .before .before .before .before .«record» .ensures)
-    (c .before .before .before .before .before .retrieve-by-time-filter .ensures)
-    (c .before .before .before .before .retrieved .ensures) (c .before .before .put2 .ensures .0) (c .before .before .put2 .ensures .1)
+    (p11 .fits .from-secs) (p6 .time .ensures)) (held-time _ _ _ (p11 .fits .to-secs) (p5 .time2 .ensures))) _ _ _ _ _ _
+    (p10 .if1 .left)
+    (p9 .setup .ensures)
+    (p8 .if2 .left)
+    (p7 .«record» .ensures)
+    (p3 .retrieve-by-time-filter .ensures)
+    (p2 .retrieved .ensures) (p1 .put2 .ensures .0) (p1 .put2 .ensures .1)
 
 pub silotwist-window-spec : {M : Type 1} → statement M
 silotwist-window-spec =

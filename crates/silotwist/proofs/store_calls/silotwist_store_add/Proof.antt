@@ -12,13 +12,19 @@ returns c = let a = c .before .before .before .before .before .before .args in s
 
 returns-2 : tie.Need-returns-2
 returns-2 c =
-    let a = c .before .before .before .before .before .before .before .before .before .before .before .before .before .before .before .before .before .before .before .args in
+    let p1 = c .before .before in
+    let p2 = p1 .before .before in
+    let p3 = p2 .before .before .before .before .before in
+    let p4 = p3 .before .before .before in
+    let p5 = p4 .before in
+    let p6 = p5 .before .before .before .before .before .before in
+    let a = p6 .args in
     stores (a .answer .now) (a .setup .now) (a .store .now) (a .lens .now) (λ su ps. addIn (su .spill) ps (a .«data» .now)) _ _ _ _ _ _ _
-    (c .before .before .before .before .before .before .before .before .before .before .before .before .before .if1 .left)
-    (c .before .before .before .before .before .before .before .before .before .before .before .before .store-setup .ensures)
-    (c .before .before .before .before .before .before .before .before .before .add .ensures)
-    (c .before .before .before .before .added .ensures)
-    (c .before .before .put .ensures .0) (c .before .before .put .ensures .1)
+    (p5 .if1 .left)
+    (p4 .store-setup .ensures)
+    (p3 .add .ensures)
+    (p2 .added .ensures)
+    (p1 .put .ensures .0) (p1 .put .ensures .1)
 
 pub silotwist-store-add-spec : {M : Type 1} → statement M
 silotwist-store-add-spec =
