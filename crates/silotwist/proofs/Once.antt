@@ -1,0 +1,42 @@
+-- Each promise of the C face allows one number, one answer and one set of tables; and a refusal changes nothing but the answer.
+-- Assumes nothing.
+use Prim.Native.Nat.{ℕ}
+use Rattle.record.specs.declared.Record.{Record}
+use Rattle.rules.proofs.Order.{refusal-keeps}
+use Rattle.rules.specs.Papers.{Outcome, says}
+use Rattle.schedule.specs.State.{State}
+use Rattle.store.specs.Pools.{Pool}
+use Rattle.silotwist.specs.Face.{Answers}
+use Rattle.silotwist.specs.RecordFace.{RecordFaces}
+use Rattle.silotwist.specs.ScheduleFace.{ScheduleFaces}
+use Rattle.silotwist.specs.StoreFace.{BufferFaces, StoreFaces}
+use mathlib.Core.List.{List}
+use mathlib.Core.Path.{_∙_, _≡_, sym}
+
+pub one-answer : {A : Type 0} (o : Outcome A) (an : List ℕ) (n m : ℕ) (x y : List ℕ) → Answers o an n x → Answers o an m y → (n ≡ m) × (x ≡ y)
+one-answer o an n m x y p q = (p .number ∙ sym (q .number), p .words ∙ sym (q .words))
+
+pub one-store : (sw : List ℕ) (o : Outcome (List Pool)) (st le an : List ℕ) (n m : ℕ) (s s′ l l′ x y : List ℕ)
+    → StoreFaces sw o st le an n s l x → StoreFaces sw o st le an m s′ l′ y → (s ≡ s′) × (l ≡ l′)
+one-store sw o st le an n m s s′ l l′ x y p q = (p .store ∙ sym (q .store), p .lens ∙ sym (q .lens))
+
+pub one-buffer : (o : Outcome (List ℕ)) (buf an : List ℕ) (n m : ℕ) (b b′ x y : List ℕ)
+    → BufferFaces o buf an n b x → BufferFaces o buf an m b′ y → b ≡ b′
+one-buffer o buf an n m b b′ x y p q = p .buffer ∙ sym (q .buffer)
+
+pub one-record : (o : Outcome Record) (f : Record → List ℕ) (ws an : List ℕ) (n m : ℕ) (r r′ x y : List ℕ)
+    → RecordFaces o f ws an n r x → RecordFaces o f ws an m r′ y → r ≡ r′
+one-record o f ws an n m r r′ x y p q = p .words ∙ sym (q .words)
+
+module _ (sw : List ℕ) (k : ℕ) (o : Outcome State) (f : State → List ℕ) (ws st le ro an : List ℕ) where
+  pub one-schedule : (n m : ℕ) (r r′ s s′ l l′ t t′ x y : List ℕ) → ScheduleFaces sw k o f ws st le ro an n r s l t x
+      → ScheduleFaces sw k o f ws st le ro an m r′ s′ l′ t′ y → (r ≡ r′) × (s ≡ s′) × (l ≡ l′) × (t ≡ t′)
+  one-schedule n m r r′ s s′ l l′ t t′ x y p q =
+      (p .words ∙ sym (q .words), p .store ∙ sym (q .store), p .lens ∙ sym (q .lens), p .rows ∙ sym (q .rows))
+
+  -- a number above 0 leaves record, store, lengths and rows as they were
+  pub refusal-keeps-all : (n : ℕ) (r s l t x : List ℕ) → ScheduleFaces sw k o f ws st le ro an n r s l t x → (n ≡ 0 → ⊥)
+      → (r ≡ ws) × (s ≡ st) × (l ≡ le) × (t ≡ ro)
+  refusal-keeps-all n r s l t x p h =
+      let u : says o .number ≡ 0 → ⊥ = λ e. h (p .answer .number ∙ e) in
+      (p .words ∙ refusal-keeps o ws _ u, p .store ∙ refusal-keeps o st _ u, p .lens ∙ refusal-keeps o le _ u, p .rows ∙ refusal-keeps o ro _ u)

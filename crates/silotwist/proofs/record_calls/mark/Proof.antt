@@ -1,0 +1,55 @@
+-- `silotwist::record_calls::mark` meets its contract.
+-- Assumes nothing.
+use Rattle.record.specs.Record.{markIn}
+use Rattle.silotwist.specs.RecordFace.{markWritten}
+use Rattle.silotwist.proofs.RecordCalls.{mark-face, record-no-answer, record-short}
+use borrow.Author.Needs.{needs}
+use Rattle.silotwist.proofs.record_calls.mark.Statement.{statement}
+use Rattle.silotwist.proofs.record_calls.mark.Tie as tie
+
+returns : tie.Need-returns
+returns c = record-no-answer (c .before .before .before .args .answer .now) (c .before .before .before .args .«record» .now) (markIn
+    (c .before .before .before .args .on)) (markWritten (c .before .before .before .args .«record» .now)) (c .if1 .taken)
+
+returns-2 : tie.Need-returns-2
+returns-2 c = record-short (c .before .before .before .before .before .before .before .before .before .args .answer .now)
+    (c .before .before .before .before .before .before .before .before .before .args .«record» .now) (markIn
+    (c .before .before .before .before .before .before .before .before .before .args .on)) (markWritten
+    (c .before .before .before .before .before .before .before .before .before .args .«record» .now)) _ _ _
+    (c .before .before .before .before .before .before .if1 .left) (c .before .before .before .before .before .if2 .taken)
+    (c .before .before .before .none .ensures) (c .before .before .put .ensures .0) (c .before .before .put .ensures .1)
+
+returns-3 : tie.Need-returns-3
+returns-3 c =
+    let p1 = c .before .before in
+    let p2 = p1 .before .before .before .before in
+    let p3 = p2 .before .before in
+    let p4 = p3 .before in
+    let p5 = p4 .before in
+    let p6 = p5 .before .before in
+    let p7 = p6 .before in
+    let p8 = p7 .before .before .before in
+    mark-face (p8 .args .answer .now) (p8 .args .«record» .now) _ (p5 .«record» .ensures) _ _ (p3 .done .ensures) _ _ _
+    (p7 .if1 .left)
+    (p6 .if2 .left)
+    (p1 .put2 .ensures .0) (p1 .put2 .ensures .1) _
+    (p4 .marked .ensures)
+    (p2 .mark .ensures)
+
+pub mark-spec : {M : Type 1} → statement M
+mark-spec =
+    tie.close
+    (tie.spec
+    returns
+    (λ c κs. search needs)
+    (λ c κs. search needs)
+    (λ c. search needs)
+    returns-2
+    (λ c κs. search needs)
+    (λ c κs. search needs)
+    (λ c κs. search needs)
+    (λ c κs. search needs)
+    (λ c κs. search needs)
+    (λ c. search needs)
+    (λ c. search needs)
+    returns-3)

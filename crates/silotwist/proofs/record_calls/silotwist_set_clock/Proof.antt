@@ -1,0 +1,65 @@
+-- `silotwist::record_calls::silotwist_set_clock` meets its contract.
+-- Assumes nothing.
+use Rattle.record.specs.Record.{clockIn}
+use Rattle.silotwist.specs.RecordFace.{clockWritten}
+use Rattle.silotwist.proofs.RecordCalls.{clock-face, record-no-answer, record-short}
+use mathlib.Core.Path.{ap}
+use mir.Facts.{toZ-ofZ}
+use mir.Syntax.{w64}
+use mir.Val.{SFits}
+use lib.IntN.{ℤ}
+use borrow.Author.Needs.{needs}
+use Rattle.silotwist.proofs.record_calls.silotwist_set_clock.Statement.{statement}
+use Rattle.silotwist.proofs.record_calls.silotwist_set_clock.Tie as tie
+
+returns : tie.Need-returns
+returns c = record-no-answer (c .before .before .before .args .answer .now) (c .before .before .before .args .«record» .now) (clockIn
+    (record { secs = c .before .before .before .args .secs; nanos = c .before .before .before .args .nanos })) (clockWritten
+    (c .before .before .before .args .«record» .now)) (c .if1 .taken)
+
+returns-2 : tie.Need-returns-2
+returns-2 c =
+    let p1 = c .before .before in
+    let p2 = p1 .before in
+    let p3 = p2 .before .before in
+    let p4 = p3 .before in
+    let p5 = p4 .before .before .before in
+    record-short (p5 .args .answer .now)
+    (p5 .args .«record» .now) (clockIn
+    (record { secs = p5 .args .secs; nanos = p5 .args .nanos })) (clockWritten (p5 .args .«record» .now)) _ _ _
+    (p4 .if1 .left) (p3 .if2 .taken) (p2 .none .ensures) (p1 .put .ensures .0) (p1 .put .ensures .1)
+
+returns-3 : tie.Need-returns-3
+returns-3 c =
+    let p1 = c .before .before in
+    let p2 = p1 .before .before .before .before in
+    let p3 = p2 .before .before in
+    let p4 = p3 .before in
+    let p5 = p4 .before in
+    let p6 = p5 .before .before in
+    let p7 = p6 .before in
+    let p8 = p7 .before .before .before in
+    let f : SFits w64 (p8 .args .secs) = search needs in
+    clock-face (p8 .args .answer .now) (p8 .args .«record» .now) _ (p5 .«record» .ensures) _ _ (p3 .done .ensures) _ _ _
+    (p7 .if1 .left)
+    (p6 .if2 .left)
+    (p1 .put2 .ensures .0) (p1 .put2 .ensures .1) _ _
+    (ap (λ (z : ℤ). record { secs = z; nanos = p8 .args .nanos }) (toZ-ofZ f)) (p4 .clocked .ensures) (p2 .clock .ensures)
+
+pub silotwist-set-clock-spec : {M : Type 1} → statement M
+silotwist-set-clock-spec =
+    tie.close
+    (tie.spec
+    returns
+    (λ c κs. search needs)
+    (λ c κs. search needs)
+    (λ c. search needs)
+    returns-2
+    (λ c κs. search needs)
+    (λ c κs. search needs)
+    (λ c κs. search needs)
+    (λ c κs. search needs)
+    (λ c κs. search needs)
+    (λ c. search needs)
+    (λ c. search needs)
+    returns-3)

@@ -1,0 +1,78 @@
+-- `silotwist::schedule_calls::silotwist_window` meets its contract.
+-- Assumes nothing.
+use Rattle.deletions.specs.Windowing.{retrieveIn}
+use Rattle.silotwist.specs.ScheduleFace.{windowFrom}
+use Rattle.silotwist.proofs.ScheduleCalls.{looks-at, looks-no-answer, looks-short}
+use Rattle.silotwist.proofs.Signed.{held-time}
+use mathlib.Core.Path.{_∙_, ap₂}
+use borrow.Author.Needs.{needs}
+use Rattle.silotwist.proofs.schedule_calls.silotwist_window.Statement.{statement}
+use Rattle.silotwist.proofs.schedule_calls.silotwist_window.Tie as tie
+
+returns : tie.Need-returns
+returns c =
+    let a = c .before .before .before .before .before .before .before .args in
+    looks-no-answer (a .answer .now) (a .setup .now) (a .«record» .now) (a .store .now) (a .lens .now) (a .rows .now) (λ su. retrieveIn
+    (windowFrom (a .has-from) (record { secs = a .from-secs; nanos = a .from-nanos }) (a .has-to)
+    (record { secs = a .to-secs; nanos = a .to-nanos }))) (c .if1 .taken)
+
+put-requires : tie.Need-put-requires
+put-requires c κs = c .before .before .before .before .if1 .left
+
+returns-2 : tie.Need-returns-2
+returns-2 c =
+    let a = c .before .before .before .before .before .before .before .before .before .before .before .before .before .before .args in
+    looks-short (a .answer .now) (a .setup .now) (a .«record» .now) (a .store .now) (a .lens .now) (a .rows .now) (λ su. retrieveIn (windowFrom
+    (a .has-from) (record { secs = a .from-secs; nanos = a .from-nanos }) (a .has-to)
+    (record { secs = a .to-secs; nanos = a .to-nanos }))) _ _ _ _ (c .before .before .before .before .before .before .before .if1 .left)
+    (c .before .before .before .before .before .before .setup .ensures) (c .before .before .before .before .before .if2 .taken)
+    (c .before .before .before .short-record .ensures) (c .before .before .put .ensures .0) (c .before .before .put .ensures .1)
+
+put-requires-2 : tie.Need-put-requires-2
+put-requires-2 c κs = c .before .before .before .before .before .before .before .before .before .if1 .left
+
+returns-3 : tie.Need-returns-3
+returns-3 c =
+    let p1 = c .before .before in
+    let p2 = p1 .before .before in
+    let p3 = p2 .before in
+    let p4 = p3 .before in
+    let p5 = p4 .before in
+    let p6 = p5 .before in
+    let p7 = p6 .before in
+    let p8 = p7 .before in
+    let p9 = p8 .before in
+    let p10 = p9 .before in
+    let p11 = p10 .before .before .before .before .before .before .before in
+    let a = p11 .args in
+    looks-at (a .answer .now) (a .setup .now) (a .«record» .now) (a .store .now) (a .lens .now) (a .rows .now) (λ v su. retrieveIn v) _
+    (windowFrom (a .has-from) (record { secs = a .from-secs; nanos = a .from-nanos }) (a .has-to)
+    (record { secs = a .to-secs; nanos = a .to-nanos })) (p4 .window .ensures ∙ ap₂
+    (λ x y. windowFrom (a .has-from) x (a .has-to) y) (held-time _ _ _
+    (p11 .fits .from-secs) (p6 .time .ensures)) (held-time _ _ _ (p11 .fits .to-secs) (p5 .time2 .ensures))) _ _ _ _ _ _
+    (p10 .if1 .left)
+    (p9 .setup .ensures)
+    (p8 .if2 .left)
+    (p7 .«record» .ensures)
+    (p3 .retrieve-by-time-filter .ensures)
+    (p2 .retrieved .ensures) (p1 .put2 .ensures .0) (p1 .put2 .ensures .1)
+
+pub silotwist-window-spec : {M : Type 1} → statement M
+silotwist-window-spec =
+    tie.close
+    (tie.spec
+    returns
+    (λ c κs. search needs)
+    (λ c κs. search needs)
+    put-requires
+    (λ c. search needs)
+    returns-2
+    (λ c κs. search needs)
+    (λ c κs. search needs)
+    (λ c κs. search needs)
+    (λ c κs. search needs)
+    (λ c κs. search needs)
+    (λ c κs. search needs)
+    put-requires-2
+    (λ c. search needs)
+    returns-3)

@@ -1,0 +1,7 @@
+-- The C face (include/silotwist.h): what a reader must believe. Read it in this order, beside the header.
+pub mod Reading
+pub mod Face
+pub mod StoreFace
+pub mod RecordFace
+pub mod ScheduleFace
+pub mod Inside

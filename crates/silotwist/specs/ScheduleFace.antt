@@ -1,0 +1,60 @@
+-- The scheduler's calls over words: what each comes to, and what it promises.
+use Prim.Native.Nat.{ℕ}
+use Rattle.deletions.specs.declared.Window.{Window}
+use Rattle.deletions.specs.declared.Window.the-variants.{All, From, FromTo, To}
+use Rattle.record.specs.Refusals.{marginWords, timeWords}
+use Rattle.record.specs.declared.Record.{Record}
+use Rattle.rules.specs.Papers.{Outcome, after, no, refused}
+use Rattle.rules.specs.Tests.{unless}
+use Rattle.schedule.specs.Judge.{judging, setupOk}
+use Rattle.schedule.specs.State.{State}
+use Rattle.schedule.specs.declared.Setup.{Setup}
+use Rattle.store.specs.Refusals.{bit}
+use Rattle.store.specs.View.{lensWith, storeWith}
+use Rattle.table.specs.Entries.{relaid}
+use Rattle.time.specs.declared.UnixTime.{UnixTime}
+use lib.ListN.{drop, length, set}
+use mathlib.Core.Bool.{Bool, false, true}
+use mathlib.Core.List.{List, [], _++_, _∷_}
+use mathlib.Core.Path.{_≡_}
+use Rattle.silotwist.specs.Face.{Answers, answering}
+use Rattle.silotwist.specs.Reading.{recordFrom, recordWords, setupFrom, storeSetup, wellCounted}
+use Rattle.silotwist.specs.RecordFace.{longEnough}
+
+-- the answer's room; all of 1, the number of setup words first; then all of 2, the record's words first; and then as the call judges
+unfoldable pub scheduleCall : {A : Type 0} → List ℕ → List ℕ → List ℕ → (Setup → Record → Outcome A) → Outcome A
+scheduleCall an sw rw call =
+    answering an
+    (unless (wellCounted sw) (refused (no 1 []))
+    (unless (setupOk (setupFrom sw)) (refused (no 1 []))
+    (unless (longEnough rw) (refused (no 2 [])) (call (setupFrom sw) (recordFrom rw)))))
+
+-- a call that judges 1, 2 and 3
+unfoldable pub judgedCall : {A : Type 0} → List ℕ → List ℕ → List ℕ → List ℕ → List ℕ → List ℕ → (Setup → State → Outcome A) → Outcome A
+judgedCall an sw rw st le ro call = scheduleCall an sw rw (λ su r. judging su r st le ro (call su))
+
+-- a call writes only the words of the record that it changes: the count; the count and 0 for disabled; or, a fresh start, all six
+abbrev pub countWritten : List ℕ → State → List ℕ
+countWritten rw s = set rw 0 (length (s .entries))
+
+abbrev pub resetWritten : List ℕ → State → List ℕ
+resetWritten rw s = set (set rw 0 (length (s .entries))) 5 0
+
+abbrev pub allWritten : List ℕ → State → List ℕ
+allWritten rw s = length (s .entries) ∷ timeWords (s .clock) (marginWords (s .margin) (bit (s .enabled) ∷ drop recordWords rw))
+
+-- a window has a start if has-from and an end if has-to; an end that it has not is not looked at
+unfoldable pub windowFrom : Bool → UnixTime → Bool → UnixTime → Window
+windowFrom true f true t = FromTo f t
+windowFrom true f false t = From f
+windowFrom false f true t = To t
+windowFrom false f false t = All
+
+-- what a call that writes promises; k is how many rows the entries had before
+pub record ScheduleFaces (sw : List ℕ) (k : ℕ) (o : Outcome State) (written : State → List ℕ) (rw st le ro an : List ℕ) (n : ℕ)
+    (rw′ st′ le′ ro′ an′ : List ℕ) : Type 0 where
+  pub answer : Answers o an n an′
+  pub words : rw′ ≡ after o rw written
+  pub store : st′ ≡ after o st (λ s. storeWith (storeSetup sw) st (s .pools))
+  pub lens : le′ ≡ after o le (λ s. lensWith (storeSetup sw) le (s .pools))
+  pub rows : ro′ ≡ after o ro (λ s. relaid ro k (s .entries))
