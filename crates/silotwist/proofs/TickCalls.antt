@@ -2,7 +2,7 @@
 -- Assumes nothing.
 use Prim.Native.Nat.{_<_, _≤_, ℕ}
 use Rattle.record.specs.declared.Record.{Record}
-use Rattle.rules.specs.Papers.{Outcome, Paper, after, done, into, judgedBy, no, refused}
+use Rattle.rules.specs.Papers.{Outcome, Paper, after, into, judgedBy, refused}
 use Rattle.rules.specs.Tests.{unless}
 use Rattle.schedule.specs.Judge.{buffersOk, judging, setupOk, stateOk}
 use Rattle.schedule.specs.State.{State}
@@ -14,12 +14,12 @@ use Rattle.silotwist.proofs.ScheduleCalls.{changes, changes-no-answer, 
 use Rattle.silotwist.specs.Face.{answering}
 use Rattle.silotwist.specs.Inside.{ReadsSetup, Stands, eight, shortPaper, wordsOf}
 use Rattle.silotwist.specs.Reading.{recordFrom, word}
-use Rattle.silotwist.specs.ScheduleFace.{ScheduleFaces, countWritten, judgedCall, scheduleCall}
+use Rattle.silotwist.specs.ScheduleFace.{countWritten, judgedCall, scheduleCall}
 use Rattle.silotwist.specs.TickFace.{TickFaces}
 use Rattle.silotwist.specs.declared.Words.{Words}
 use lib.ListN.{drop, length, set}
 use mathlib.Core.Bool.{Bool, false, true}
-use mathlib.Core.List.{List, [], _++_}
+use mathlib.Core.List.{List, _++_}
 use mathlib.Core.Path.{_∙_, _≡_, ap, refl, sym}
 
 -- the scheduler's part of an outcome, through an order of refusals

@@ -16,8 +16,8 @@ ghost use Rattle.record.specs.Refusals.{donePaper, marginWords, paper, timeWord
 ghost use Rattle.rules.specs.Papers.{no};
 ghost use Rattle.schedule.specs.Answers.{countedPaper};
 ghost use Rattle.silotwist.specs.Inside.{carrying, eight, wordsOf};
-ghost use Rattle.tick.specs.Promise.{tickPaper};
 ghost use Rattle.store.specs.Refusals.{addedPaper, badPaper, deletedPaper, lengthPaper, paper as storePaper, presencePaper};
+ghost use Rattle.tick.specs.Promise.{tickPaper};
 
 // The first 8 words of the answer; those behind them stay.
 pub fn put(answer: &mut [u64], words: Words) -> u32
