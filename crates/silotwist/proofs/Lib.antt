@@ -10,4 +10,5 @@ pub mod RecordCalls
 pub mod ScheduleCalls
 pub mod Resetting
 pub mod Parting
+pub mod TickCalls
 pub mod Once

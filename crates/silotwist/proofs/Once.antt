@@ -2,7 +2,7 @@
 -- Assumes nothing.
 use Prim.Native.Nat.{ℕ}
 use Rattle.record.specs.declared.Record.{Record}
-use Rattle.rules.proofs.Order.{refusal-keeps}
+use Rattle.rules.proofs.Order.{into-says, refusal-keeps}
 use Rattle.rules.specs.Papers.{Outcome, says}
 use Rattle.schedule.specs.State.{State}
 use Rattle.store.specs.Pools.{Pool}
@@ -10,8 +10,11 @@ use Rattle.silotwist.specs.Face.{Answers}
 use Rattle.silotwist.specs.RecordFace.{RecordFaces}
 use Rattle.silotwist.specs.ScheduleFace.{ScheduleFaces}
 use Rattle.silotwist.specs.StoreFace.{BufferFaces, StoreFaces}
+use Rattle.silotwist.specs.TickFace.{TickFaces}
+use Rattle.tick.specs.Promise.{left}
+use Rattle.tick.specs.Tick.{Logged}
 use mathlib.Core.List.{List}
-use mathlib.Core.Path.{_∙_, _≡_, sym}
+use mathlib.Core.Path.{_∙_, _≡_, ap, sym}
 
 pub one-answer : {A : Type 0} (o : Outcome A) (an : List ℕ) (n m : ℕ) (x y : List ℕ) → Answers o an n x → Answers o an m y → (n ≡ m) × (x ≡ y)
 one-answer o an n m x y p q = (p .number ∙ sym (q .number), p .words ∙ sym (q .words))
@@ -40,3 +43,19 @@ module _ (sw : List ℕ) (k : ℕ) (o : Outcome State) (f : State → List ℕ) 
   refusal-keeps-all n r s l t x p h =
       let u : says o .number ≡ 0 → ⊥ = λ e. h (p .answer .number ∙ e) in
       (p .words ∙ refusal-keeps o ws _ u, p .store ∙ refusal-keeps o st _ u, p .lens ∙ refusal-keeps o le _ u, p .rows ∙ refusal-keeps o ro _ u)
+
+-- the tick: its number, answer and tables as any scheduler's call, and its log
+module _ (sw : List ℕ) (k : ℕ) (o : Outcome Logged) (f : State → List ℕ) (ws st le ro lo an : List ℕ) where
+  pub one-tick : (n m : ℕ) (r r′ s s′ l l′ t t′ g g′ x y : List ℕ) → TickFaces sw k o f ws st le ro lo an n r s l t g x
+      → TickFaces sw k o f ws st le ro lo an m r′ s′ l′ t′ g′ y → ((n ≡ m) × (x ≡ y)) × ((r ≡ r′) × (s ≡ s′) × (l ≡ l′) × (t ≡ t′)) × (g ≡ g′)
+  one-tick n m r r′ s s′ l l′ t t′ g g′ x y p q = (
+    one-answer (left o) an n m x y (p .tables .answer) (q .tables .answer),
+    one-schedule sw k (left o) f ws st le ro an n m r r′ s s′ l l′ t t′ x y (p .tables) (q .tables),
+    p .log ∙ sym (q .log),
+  )
+
+  pub refused-tick-keeps-all : (n : ℕ) (r s l t g x : List ℕ) → TickFaces sw k o f ws st le ro lo an n r s l t g x → (n ≡ 0 → ⊥)
+      → ((r ≡ ws) × (s ≡ st) × (l ≡ le) × (t ≡ ro)) × (g ≡ lo)
+  refused-tick-keeps-all n r s l t g x p h =
+      let u : says o .number ≡ 0 → ⊥ = λ e. h (p .tables .answer .number ∙ ap (λ v. v .number) (into-says _ o) ∙ e) in
+      (refusal-keeps-all sw k (left o) f ws st le ro an n r s l t x (p .tables) h, p .log ∙ refusal-keeps o lo _ u)

@@ -4,4 +4,5 @@ pub mod Face
 pub mod StoreFace
 pub mod RecordFace
 pub mod ScheduleFace
+pub mod TickFace
 pub mod Inside

@@ -17,6 +17,7 @@ ghost use Rattle.rules.specs.Papers.{no};
 ghost use Rattle.schedule.specs.Answers.{countedPaper};
 ghost use Rattle.silotwist.specs.Inside.{carrying, eight, wordsOf};
 ghost use Rattle.store.specs.Refusals.{addedPaper, badPaper, deletedPaper, lengthPaper, paper as storePaper, presencePaper};
+ghost use Rattle.tick.specs.Promise.{tickPaper};
 
 // The first 8 words of the answer; those behind them stay.
 pub fn put(answer: &mut [u64], words: Words) -> u32
@@ -291,5 +292,14 @@ pub fn freed(a: deletions::FreeAnswer) -> Words
         deletions::FreeAnswer::Deleted => two(0, 1, 1),
         deletions::FreeAnswer::Missing(e) => behind(1, 0, store_refusal(e)),
         deletions::FreeAnswer::Refused(e) => refusal(e),
+    }
+}
+
+pub fn ticked(a: tick::TickAnswer) -> Words
+    ensures { λ r. ⌜ r ≡ wordsOf (tickPaper a) ⌝ }
+{
+    match a {
+        tick::TickAnswer::HandedOut(h) => two(0, wide(h.m), wide(h.remain)),
+        tick::TickAnswer::Refused(e) => refusal(e),
     }
 }

@@ -4,6 +4,7 @@ mod reading;
 pub mod record_calls;
 pub mod schedule_calls;
 pub mod store_calls;
+pub mod tick_call;
 mod writing;
 
 // An answer: the number to return, and the answer's first words.

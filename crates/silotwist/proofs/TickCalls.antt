@@ -1,0 +1,85 @@
+-- The release tick over words, from the tick's own promise.
+-- Assumes nothing.
+use Prim.Native.Nat.{_<_, _≤_, ℕ}
+use Rattle.record.specs.declared.Record.{Record}
+use Rattle.rules.specs.Papers.{Outcome, Paper, after, into, judgedBy, refused}
+use Rattle.rules.specs.Tests.{unless}
+use Rattle.schedule.specs.Judge.{buffersOk, judging, setupOk, stateOk}
+use Rattle.schedule.specs.State.{State}
+use Rattle.schedule.specs.declared.Setup.{Setup}
+use Rattle.tick.specs.Promise.{Ticks, left}
+use Rattle.tick.specs.Tick.{Logged}
+use Rattle.silotwist.proofs.Answering.{roomy, short}
+use Rattle.silotwist.proofs.ScheduleCalls.{changes, changes-no-answer, changes-short, judged-is, judgedOf, short-is, worded}
+use Rattle.silotwist.specs.Face.{answering}
+use Rattle.silotwist.specs.Inside.{ReadsSetup, Stands, eight, shortPaper, wordsOf}
+use Rattle.silotwist.specs.Reading.{recordFrom, word}
+use Rattle.silotwist.specs.ScheduleFace.{countWritten, judgedCall, scheduleCall}
+use Rattle.silotwist.specs.TickFace.{TickFaces}
+use Rattle.silotwist.specs.declared.Words.{Words}
+use lib.ListN.{drop, length, set}
+use mathlib.Core.Bool.{Bool, false, true}
+use mathlib.Core.List.{List, _++_}
+use mathlib.Core.Path.{_∙_, _≡_, ap, refl, sym}
+
+-- the scheduler's part of an outcome, through an order of refusals
+left-unless : (b : Bool) (p : Paper) (o : Outcome Logged) → left (unless b (refused p) o) ≡ unless b (refused p) (left o)
+unfolding into unless
+left-unless true p o = refl
+left-unless false p o = refl
+
+left-by : (a b c : Bool) (o : Outcome Logged) → left (judgedBy a b c o) ≡ judgedBy a b c (left o)
+unfolding judgedBy
+left-by a b c o = simp left-unless
+
+left-judging : (su : Setup) (r : Record) (st le ro : List ℕ) (call : State → Outcome Logged)
+    → left (judging su r st le ro call) ≡ judging su r st le ro (λ s. left (call s))
+unfolding judging
+left-judging su r st le ro call = left-by (setupOk su) (buffersOk su (length st) (length le) (length ro)) (stateOk su r le ro) _
+
+module _ (an sw rw₀ st le ro : List ℕ) (call : Setup → State → Outcome Logged) where
+  left-judged : left (judgedCall an sw rw₀ st le ro call) ≡ judgedCall an sw rw₀ st le ro (λ su s. left (call su s))
+  unfolding judgedCall scheduleCall answering
+  left-judged = simp (left-unless, left-judging)
+
+  module _ (lo : List ℕ) where
+    pub ticks-no-answer : length an < 8
+        → TickFaces sw (word rw₀ 0) (judgedCall an sw rw₀ st le ro call) (countWritten rw₀) rw₀ st le ro lo an 2 rw₀ st le ro lo an
+    unfolding judgedCall scheduleCall after
+    ticks-no-answer h =
+        let e = short an (worded an sw rw₀ (judgedOf an sw rw₀ st le ro call)) h in
+        record { tables = rw left-judged (changes-no-answer an sw rw₀ st le ro (λ su s. left (call su s)) (countWritten rw₀) h); log = rw e }
+
+    pub ticks-short : (su : Setup) (w : Words) (n : ℕ) (an′ : List ℕ) → 8 ≤ length an → ReadsSetup sw su → length rw₀ < 6
+        → w ≡ wordsOf (shortPaper su) → n ≡ w .number → an′ ≡ eight (w .values) ++ drop 8 an
+        → TickFaces sw (word rw₀ 0) (judgedCall an sw rw₀ st le ro call) (countWritten rw₀) rw₀ st le ro lo an n rw₀ st le ro lo an′
+    unfolding judgedCall scheduleCall after
+    ticks-short su w n an′ h r l e i j =
+        let f = judgedOf an sw rw₀ st le ro call in
+        let q = roomy an (worded an sw rw₀ f) h ∙ short-is an sw rw₀ f su r l in
+        record {
+          tables = rw left-judged (changes-short an sw rw₀ st le ro (λ su s. left (call su s)) (countWritten rw₀) su w n an′ h r l e i j);
+          log = rw q;
+        }
+
+    log-is : (su : Setup) (r : Record) (lo′ : List ℕ) → 8 ≤ length an → ReadsSetup sw su → 6 ≤ length rw₀ → Stands (recordFrom rw₀) r
+        → lo′ ≡ after (judging su r st le ro (call su)) lo (λ x. x .log) → lo′ ≡ after (judgedCall an sw rw₀ st le ro call) lo (λ x. x .log)
+    unfolding judgedCall scheduleCall
+    log-is su r lo′ h s l t x =
+        let f = judgedOf an sw rw₀ st le ro call in
+        x
+        ∙ ap (λ o. after o lo (λ v. v .log)) (judged-is an sw rw₀ st le ro call su r s t l ∙ sym (roomy an (worded an sw rw₀ f) h))
+
+    pub ticks : (su : Setup) (r r′ : Record) (p : Paper) (w : Words) (n : ℕ) (rw′ st′ le′ ro′ lo′ an′ : List ℕ) → 8 ≤ length an
+        → ReadsSetup sw su → 6 ≤ length rw₀ → Stands (recordFrom rw₀) r
+        → Ticks su r st le ro lo (judging su r st le ro (call su)) p r′ st′ le′ ro′ lo′
+        → w ≡ wordsOf p → n ≡ w .number → an′ ≡ eight (w .values) ++ drop 8 an → rw′ ≡ set rw₀ 0 (r′ .count)
+        → TickFaces sw (word rw₀ 0) (judgedCall an sw rw₀ st le ro call) (countWritten rw₀) rw₀ st le ro lo an n rw′ st′ le′ ro′ lo′ an′
+    ticks su r r′ p w n rw′ st′ le′ ro′ lo′ an′ h s l t x e i j a =
+        let y = rw (left-judging su r st le ro (call su)) at (x .tables) in
+        record {
+          tables =
+              rw left-judged
+              (changes an sw rw₀ st le ro (λ su s. left (call su s)) su r r′ p w n rw′ st′ le′ ro′ an′ h s l t y e i j a);
+          log = log-is su r lo′ h s l t (x .log);
+        }

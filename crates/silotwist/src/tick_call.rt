@@ -1,0 +1,44 @@
+// The release tick.
+use crate::answers;
+use crate::reading;
+use crate::writing;
+ghost use Rattle.silotwist.specs.Reading.{word};
+ghost use Rattle.silotwist.specs.ScheduleFace.{countWritten, judgedCall};
+ghost use Rattle.silotwist.specs.TickFace.{TickFaces};
+ghost use Rattle.tick.specs.Tick.{tickIn};
+
+#[no_mangle]
+pub extern "C" fn silotwist_tick(
+    setup: &[u64],
+    record: &mut [u64],
+    store: &mut [u8],
+    lens: &mut [u16],
+    rows: &mut [u64],
+    log: &mut [u8],
+    limit: u64,
+    delete_packets: bool,
+    answer: &mut [u64],
+) -> u32
+    ensures { λ n. ⌜ TickFaces (now (setup .entry)) (word (now («record» .entry)) 0)
+        (judgedCall (now (answer .entry)) (now (setup .entry)) (now («record» .entry)) (now (store .entry)) (now (lens .entry)) (now (rows .entry))
+        (λ su. tickIn limit «delete_packets» (now (log .entry))))
+        (countWritten (now («record» .entry)))
+        (now («record» .entry)) (now (store .entry)) (now (lens .entry)) (now (rows .entry)) (now (log .entry)) (now (answer .entry)) n
+        (now («record» .exit)) (now (store .exit)) (now (lens .exit)) (now (rows .exit)) (now (log .exit)) (now (answer .exit)) ⌝ }
+{
+    if answer.len() < 8 {
+        return 2;
+    }
+    let su = reading::setup(setup);
+    if record.len() < 6 {
+        return answers::put(answer, reading::short_record(su));
+    }
+    let r = reading::record(record);
+    let most = limit as usize;
+    let c = tick::tick(su, r, store, lens, rows, log, most, delete_packets);
+    let next = c.next;
+    let a = c.answer;
+    let w = answers::ticked(a);
+    writing::count(record, next.count);
+    answers::put(answer, w)
+}
