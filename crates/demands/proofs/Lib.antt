@@ -1,0 +1,5 @@
+-- The proofs of the demands: Keeping and Numbers for demand 1, Sequences for the other three. The other files help them.
+pub mod Numbers
+pub mod Undamaged
+pub mod Following
+pub mod Sequences
