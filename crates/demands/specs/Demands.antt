@@ -48,6 +48,16 @@ RefusalChangesNothing =
 unfoldable pub NumbersOfTheTable : Type 0
 NumbersOfTheTable = (su : Setup) (q : Request) (t : Lent) (x : Answer) (u : Lent) → Calls su q t x u → x .paper .number ≤ 20
 
+-- The promises determine every answer, with the buffer, and every lent byte and the record afterwards: of one call, and of any number of calls
+unfoldable pub OneOutcome : Type 0
+OneOutcome =
+    (su : Setup) (q : Request) (t : Lent) (x y : Answer) (u v : Lent) → Calls su q t x u → Calls su q t y v → (x ≡ y) × (u ≡ v)
+
+unfoldable pub RunsAgree : Type 0
+RunsAgree =
+    (su : Setup) (qs : List Request) (t : Lent) (xs ys : List Answer) (u v : Lent) → Runs su qs t xs u → Runs su qs t ys v →
+    (xs ≡ ys) × (u ≡ v)
+
 -- Demand 2 over sequences, after a fresh start that is not refused: the answers, and the buffers with them, are those of the definitions, and
 -- what is lent stands in the end for the state that the definitions leave
 pub record AsTheModel (su : Setup) (qs : List Request) (s : State) (given : List Answer) (end : Lent) : Type 0 where
