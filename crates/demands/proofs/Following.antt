@@ -106,8 +106,9 @@ module _ (su : Setup) (t : Lent) (x : Answer) (u : Lent) (s : Fine su t) where
       go (held n b) e p w l =
           let m = held-whole (su .store) (t .store) (t .lens) (facts s .store) a n b e in
           let v = modify-steps su (t .rec) (t .store) (t .lens) (t .rows) s a n b ys e (sym w ∙ m) in
-          marked (modify a ys) _ (l ∙ ap (λ (k : ℕ). record { rec = t .rec; store = put (startOf (su .store) a) k ys (t .store); lens = t .lens; rows = t .rows }) m)
-          (c .buffer) (subst (λ (y : Paper). StepsAs su (t .rec) (t .store) (t .lens) (t .rows) (modify a ys) y (t .rec) (put (startOf (su .store) a) n ys (t .store)) (t .lens) (t .rows)) (sym p) v)
+          marked (modify a ys) _
+          (l ∙ ap (λ (k : ℕ). record { rec = t .rec; store = put (startOf (su .store) a) k ys (t .store); lens = t .lens; rows = t .rows }) m)
+          (c .buffer) (record { sound = v .sound; answer = p ∙ v .answer; state = v .state })
 
   pub calls-follow : (q : Request) → OfBytes q → Calls su q t x u → Follows su q t x u
   unfolding Calls step carried looked
@@ -136,7 +137,8 @@ module _ (su : Setup) (t : Lent) (x : Answer) (u : Lent) (s : Fine su t) where
       looks count (c .lent) (count-tells su (t .rec) (t .store) (t .lens) (t .rows) s (x .paper) (c .answer)) (c .buffer) refl
   calls-follow (insertWrapped p) o c =
       wrote (insertWrapped p)
-      (wrapped-steps su (t .rec) (t .store) (t .lens) (t .rows) s (x .paper) (u .rec) (u .store) (u .lens) (u .rows) p (o p refl) (c .tables)) (c .buffer)
+      (wrapped-steps su (t .rec) (t .store) (t .lens) (t .rows) s (x .paper) (u .rec) (u .store) (u .lens) (u .rows) p (o p refl) (c .tables))
+      (c .buffer)
   calls-follow (insertUnwrapped k p) o c =
       wrote (insertUnwrapped k p)
       (unwrapped-steps su (t .rec) (t .store) (t .lens) (t .rows) s (x .paper) (u .rec) (u .store) (u .lens) (u .rows) k p (c .tables)) (c .buffer)
@@ -158,5 +160,7 @@ module _ (su : Setup) (t : Lent) (x : Answer) (u : Lent) (s : Fine su t) where
       wrote (deleteById id)
       (by-id-steps su (t .rec) (t .store) (t .lens) (t .rows) s (x .paper) (u .rec) (u .store) (u .lens) (u .rows) id (c .tables)) (c .buffer)
   calls-follow (tick limit del log) o c =
-      let w = tick-steps su (t .rec) (t .store) (t .lens) (t .rows) log limit del (x .paper) (u .rec) (u .store) (u .lens) (u .rows) (x .buffer) (c .tables) s in
+      let w =
+      tick-steps su (t .rec) (t .store) (t .lens) (t .rows) log limit del (x .paper) (u .rec) (u .store) (u .lens) (u .rows) (x .buffer)
+      (c .tables) s in
       wrote (tick limit del log) (w .0) (w .1)

@@ -47,18 +47,24 @@ runs-undamaged su (q ∷ qs) t (x ∷ xs) u o s r =
     let f = calls-follow su t x (r .left) s q (o .0) (r .call) in
     let e = ap (λ (y : Answer). y .paper .number) (f .answer) in
     let k = step-own su q (stands su t) (sound-fits su (t .rec) (t .store) (t .lens) (t .rows) s) in (
-      (λ z. k 1 (omega arith) (omega arith) (sym e ∙ z), λ z. k 2 (omega arith) (omega arith) (sym e ∙ z), λ z. k 3 (omega arith) (omega arith) (sym e ∙ z)),
+      (
+        λ z. k 1 (omega arith) (omega arith) (sym e ∙ z),
+        λ z. k 2 (omega arith) (omega arith) (sym e ∙ z),
+        λ z. k 3 (omega arith) (omega arith) (sym e ∙ z),
+      ),
       runs-undamaged su qs (r .left) xs u (o .1) (f .sound) (r .others),
     )
 
 module _ (su : Setup) (clock : UnixTime) (margin : Margin) (t u : Lent) (b : Begins su clock margin t u) where
   pub begun-fine : Fine su u
   begun-fine =
-      start-sound su (t .rec) (t .store) (t .lens) (t .rows) clock margin (b .answer) (u .rec) (u .store) (u .lens) (u .rows) (b .starts) (b .not-refused)
+      start-sound su (t .rec) (t .store) (t .lens) (t .rows) clock margin (b .answer) (u .rec) (u .store) (u .lens) (u .rows)
+      (b .starts) (b .not-refused)
 
   pub begun-state : stands su u ≡ freshState su clock margin
   begun-state =
-      start-state su (t .rec) (t .store) (t .lens) (t .rows) clock margin (b .answer) (u .rec) (u .store) (u .lens) (u .rows) (b .starts) (b .not-refused)
+      start-state su (t .rec) (t .store) (t .lens) (t .rows) clock margin (b .answer) (u .rec) (u .store) (u .lens) (u .rows)
+      (b .starts) (b .not-refused)
 
 pub same-as-the-model : SameAsTheModel
 unfolding SameAsTheModel
@@ -84,7 +90,7 @@ struck-bytes (x ∷ xs) (q ∷ qs) o = one-bytes (struck (x .paper)) q (strike x
 
 pub room-changes-no-answer : RoomChangesNoAnswer false
 unfolding RoomChangesNoAnswer RoomNeverChangesAnAnswer SameAsTheModel
-room-changes-no-answer su lu clock margin before fresh end before′ fresh′ end′ qs given given′ m off named o b r b′ r′ =
+room-changes-no-answer su lu clock margin qs before fresh end before′ fresh′ end′ given given′ m off named o b r b′ r′ =
     let e = same-as-the-model su clock margin before fresh qs given end b o r .answers in
     let f = same-as-the-model lu clock margin before′ fresh′ (strike given qs) given′ end′ b′ (struck-bytes given qs o) r′ .answers in
     f ∙ subst (λ (g : List Answer). run lu (strike g qs) (freshState lu clock margin) .answers ≡ strike g g) (sym e)

@@ -36,7 +36,8 @@ bufferOf (deleteKeeping id) = []
 bufferOf (deleteById id) = []
 bufferOf (tick limit del log) = log
 
--- Demand 1, for every request and anything lent, sound or not: a refusal changes no lent byte and no record, and has a number of the table
+-- Demand 1, for every request and anything lent, sound or not: a refusal, an answer whose number is above 0, changes no lent byte and no
+-- record; and no answer has a number beyond the table's
 pub record RefusedKeeps (q : Request) (t : Lent) (x : Answer) (u : Lent) : Type 0 where
   pub lent : u ≡ t
   pub buffer : x .buffer ≡ bufferOf q
@@ -64,7 +65,7 @@ pub record AsTheModel (su : Setup) (qs : List Request) (s : State) (given : List
   pub answers : given ≡ run su qs s .answers
   pub state : stateOf su (end .rec) (end .store) (end .lens) (end .rows) ≡ run su qs s .state
 
--- A wrapped packet is one of bytes, as every lent slice of bytes is
+-- the one premise on requests: a wrapped packet is one of bytes, as every lent slice of bytes is by its type
 unfoldable pub SameAsTheModel : Type 0
 SameAsTheModel =
     (su : Setup) (clock : UnixTime) (margin : Margin) (before fresh : Lent) (qs : List Request) (given : List Answer) (end : Lent) →
@@ -90,7 +91,8 @@ NeverDamaged =
 -- is given any requests whose addresses name slots of it; the second those that the first did not refuse as StoreFull or ScheduleFull
 unfoldable pub RoomChangesNoAnswer : Bool → Type 0
 RoomChangesNoAnswer spilling =
-    (su lu : Setup) (clock : UnixTime) (margin : Margin) (before fresh end before′ fresh′ end′ : Lent) (qs : List Request) (given given′ : List Answer) →
+    (su lu : Setup) (clock : UnixTime) (margin : Margin) (qs : List Request) (before fresh end before′ fresh′ end′ : Lent)
+    (given given′ : List Answer) →
     Roomier su lu →
     Spills spilling su lu →
     EveryNamed su qs →
