@@ -1,15 +1,18 @@
--- The demands over lent tables: a refusal changes nothing, a sequence of calls answers as the definitions say, it is never damaged, and
--- room never changes an answer.
+-- The demands over lent tables: a refusal changes nothing, the promises allow exactly one result, a sequence of calls answers as the
+-- definitions say, it is never damaged, and room never changes an answer.
 use Prim.Native.Nat.{_≤_, ℕ}
 use Rattle.demands.specs.Calling.{Begins, Calls, Lent, Runs}
 use Rattle.room.specs.Room.{EveryNamed, Roomier, Spills, strike}
+use Rattle.rules.specs.Papers.{after}
 use Rattle.schedule.specs.Starting.{freshState}
 use Rattle.schedule.specs.State.{State, stateOf}
 use Rattle.schedule.specs.declared.Setup.{Setup}
 use Rattle.scheduler.specs.Fits.{AllOfBytes}
 use Rattle.scheduler.specs.Steps.{Answer, Request, add, count, delete, deleteById, deleteKeeping, deleteWindow, disable, enable, hasElementAt, insertStored, insertUnwrapped, insertWrapped, lenOfData, modify, read, reset, retrieve, run, setClock, tick}
+use Rattle.store.specs.Calls.{judging, packetIn}
 use Rattle.time.specs.declared.Margin.{Margin}
 use Rattle.time.specs.declared.UnixTime.{UnixTime}
+use lib.ListN.{length}
 use mathlib.Core.Bool.{Bool}
 use mathlib.Core.List.{List, [], _∷_}
 use mathlib.Core.Path.{_≡_}
@@ -48,6 +51,20 @@ RefusalChangesNothing =
 
 unfoldable pub NumbersOfTheTable : Type 0
 NumbersOfTheTable = (su : Setup) (q : Request) (t : Lent) (x : Answer) (u : Lent) → Calls su q t x u → x .paper .number ≤ 20
+
+-- The promises can be kept, whatever is lent: each request has a result that its promise allows. What is written through modify is as long as
+-- what it lends
+pub record Result (su : Setup) (q : Request) (t : Lent) : Type 0 where
+  pub answer : Answer
+  pub left : Lent
+  pub call : Calls su q t answer left
+
+abbrev pub Whole : Setup → Request → Lent → Type 0
+Whole su q t =
+    (a : ℕ) (ys : List ℕ) → q ≡ modify a ys → after (judging (su .store) (t .store) (t .lens) (λ ps. packetIn ps a)) (length ys) length ≡ length ys
+
+unfoldable pub SomeOutcome : Type 0
+SomeOutcome = (su : Setup) (q : Request) (t : Lent) → Whole su q t → Result su q t
 
 -- The promises determine every answer, with the buffer, and every lent byte and the record afterwards: of one call, and of any number of calls
 unfoldable pub OneOutcome : Type 0
