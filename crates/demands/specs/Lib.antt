@@ -1,0 +1,3 @@
+-- The demands, over lent tables: what each request's call promises, calls one after another, and the demands themselves.
+pub mod Calling
+pub mod Demands
