@@ -12,3 +12,4 @@ pub mod Steps
 pub mod Fresh
 pub mod Demand
 pub mod Spilling
+pub mod HighestFirst
