@@ -108,11 +108,12 @@ struct expected {
 /* One record: flag, request ID, address, and the packet's bytes up to its end. */
 static void dispatch(const uint8_t *entry, size_t entry_n, struct expected expected)
 {
-    expect("flag", entry[0], expected.flag);
     expect("bytes", entry_n, HEAD + expected.packet_n);
-    if (entry_n == HEAD + expected.packet_n)
-        for (size_t i = 0; i < expected.packet_n; i++)
-            expect("byte", entry[HEAD + i], expected.packet[i]);
+    if (entry_n != HEAD + expected.packet_n)
+        return;
+    expect("flag", entry[0], expected.flag);
+    for (size_t i = 0; i < expected.packet_n; i++)
+        expect("byte", entry[HEAD + i], expected.packet[i]);
     printf("%s ", entry[0] == RELEASED ? "released" : entry[0] == MISSING ? "missing " : "disabled");
     print_id(number_at(entry + 1, 8));
     for (size_t i = HEAD; i < entry_n; i++)

@@ -36,15 +36,28 @@ fn two_pings(s: &mut Scheduler) {
 
 #[test]
 fn bad_setup() {
-    let sizes = |subpools: usize| [Subpool { slots: 1, slot_size: 4_096 }; 9][..subpools].to_vec();
-    for (subpools, entries) in
-        [(sizes(0), 1), (sizes(2), 1), (sizes(9), 1), (sizes(1), 0), (sizes(1), 4_097)]
-    {
-        let setup = Setup::new(&subpools, false, entries);
+    let start = |subpools: &[(usize, usize)], entries| {
+        let subpools = subpools.iter().map(|&(slots, slot_size)| Subpool { slots, slot_size });
+        let setup = Setup::new(&subpools.collect::<Vec<_>>(), false, entries);
         let mut owned = Owned::of(setup);
-        let mut scheduler = Scheduler::new(setup, owned.lend());
-        assert_eq!(scheduler.fresh_start(at(0), Margin::default()), Err(Refusal::BadSetup));
-        assert_eq!(scheduler.count(), Err(Refusal::BadSetup));
+        Scheduler::new(setup, owned.lend()).fresh_start(at(0), Margin::default())
+    };
+    let rising: Vec<(usize, usize)> = (1..=9).map(|size| (256, size)).collect();
+    assert_eq!(start(&rising[..8], 4_096), Ok(()));
+    assert_eq!(start(&[(256, 4_096)], 1), Ok(()));
+    for (subpools, entries) in [
+        (&rising[..8], 0),
+        (&rising[..8], 4_097),
+        (&rising, 1),
+        (&[], 1),
+        (&[(0, 1)], 1),
+        (&[(257, 1)], 1),
+        (&[(1, 0)], 1),
+        (&[(1, 4_097)], 1),
+        (&[(1, 2), (1, 2)], 1),
+        (&[(1, 1), (256, 4_096)], 1),
+    ] {
+        assert_eq!(start(subpools, entries), Err(Refusal::BadSetup), "{subpools:?}, {entries}");
     }
     assert_eq!(Refusal::BadSetup.number(), 1);
 }
