@@ -2,8 +2,8 @@
 mod common;
 use common::{at, ping, setup, wrapped, Owned, SETUP};
 use silotwist::{
-    Entry, Flag, Freed, LogRecord, Packets, Refusal, RequestId, Store, StoreAddr, Tally, TcInfo,
-    TimeWindow, FREE,
+    Entry, Flag, Freed, LogRecord, Margin, Packets, Refusal, RequestId, Scheduler, Setup, Store,
+    StoreAddr, Subpool, Tally, TcInfo, TimeWindow, UnixTime, FREE,
 };
 
 const fn id(apid: u64, sequence: u64) -> RequestId {
@@ -168,11 +168,59 @@ fn ticks() {
     assert_eq!(scheduler.count(), Ok(0));
 }
 
+/// Document 01's worked line: the earliest release is 1 s 100,000,000 ns.
+#[test]
+fn nanoseconds() {
+    let (earliest, early) = (UnixTime::new(1, 100_000_000), UnixTime::new(1, 99_999_999));
+    let (clock, margin) = (UnixTime::new(0, 600_000_000), Margin::new(0, 500_000_000));
+    let tc = tc(RequestId(1), 0);
+    let mut owned = Owned::of(SETUP);
+    let mut scheduler = Scheduler::new(SETUP, owned.lend());
+    assert_eq!(scheduler.fresh_start(clock, margin), Ok(()));
+    assert_eq!(
+        scheduler.insert_unwrapped_and_stored_tc(early, tc),
+        Err(Refusal::ReleaseTimeInTimeMargin { clock, margin, release: early })
+    );
+    assert_eq!(scheduler.insert_unwrapped_and_stored_tc(earliest, tc), Ok(()));
+    let release = UnixTime::new(1, 100_000_001);
+    assert_eq!(
+        scheduler.insert_unwrapped_tc(release, &ping(2, 1)).map(|tc| tc.addr),
+        Ok(StoreAddr(0))
+    );
+    let within = |window| {
+        let entries = scheduler.retrieve_by_time_filter(window).expect("entries");
+        entries.map(|entry| entry.release).collect::<Vec<_>>()
+    };
+    assert_eq!(within(TimeWindow::All), [earliest, release]);
+    assert_eq!(within(TimeWindow::FromTo(early, earliest)), [earliest]);
+    assert_eq!(within(TimeWindow::From(release)), [release]);
+    let window = TimeWindow::FromTo(release, release);
+    let deleted = Tally { deleted: 1, missing: 0, last: None };
+    assert_eq!(scheduler.delete_by_time_filter(window), Ok(deleted));
+    assert_eq!(scheduler.set_clock(early), Ok(()));
+    let due = |s: &mut Scheduler| s.tick(&mut [0; 64], 1, Packets::Keep).map(|t| t.log.len());
+    assert_eq!(due(&mut scheduler), Ok(0));
+    assert_eq!(scheduler.set_clock(earliest), Ok(()));
+    assert_eq!(due(&mut scheduler), Ok(1));
+}
+
+#[test]
+fn spilling() {
+    let subpools = [Subpool { slots: 1, slot_size: 16 }, Subpool { slots: 1, slot_size: 32 }];
+    for (spilling, second) in [(true, Ok(StoreAddr(65_536))), (false, Err(Refusal::StoreFull(0)))] {
+        let setup = Setup::new(&subpools, spilling, 1);
+        let (mut bytes, mut lens) = ([0; 48], [FREE; 2]);
+        let mut store = Store::new(setup, &mut bytes, &mut lens);
+        assert_eq!(store.add(&[1; 16]), Ok(StoreAddr(0)));
+        assert_eq!(store.add(&[2; 16]), second);
+    }
+}
+
 /// What the memory holds is taken up by another scheduler.
 #[test]
 fn taken_up_again() {
     let mut owned = Owned::of(SETUP);
     assert!(owned.fresh(SETUP).insert_unwrapped_tc(at(105), &ping(1, 1)).is_ok());
-    let scheduler = silotwist::Scheduler::new(SETUP, owned.lend());
+    let scheduler = Scheduler::new(SETUP, owned.lend());
     assert_eq!(scheduler.count(), Ok(1));
 }
