@@ -42,6 +42,7 @@ impl<'a> Scheduler<'a> {
     /// Starts anew: store and rows zeroed, every slot free, no entries, enabled, with this clock and margin.
     ///
     /// Refuses [`Refusal::BadSetup`], [`Refusal::BadBuffers`], [`Refusal::BadTime`].
+    #[doc(alias = "silotwist_fresh")]
     pub fn fresh_start(&mut self, clock: UnixTime, margin: Margin) -> Result<(), Refusal> {
         let (c, m) = (clock, margin);
         ask_all!(&mut silotwist_fresh, self, c.secs, c.nanos, m.secs, m.nanos)?;
@@ -51,6 +52,7 @@ impl<'a> Scheduler<'a> {
     /// Sets the clock, forward or back.
     ///
     /// Refuses [`Refusal::StateDamaged`] for the record's own clock and margin, [`Refusal::BadTime`].
+    #[doc(alias = "silotwist_set_clock")]
     pub fn set_clock(&mut self, clock: UnixTime) -> Result<(), Refusal> {
         let record = &mut self.memory.record[..];
         ask(|answer| ffi::silotwist_set_clock(record, clock.secs, clock.nanos, answer))?;
@@ -60,6 +62,7 @@ impl<'a> Scheduler<'a> {
     /// Enables the release.
     ///
     /// Refuses [`Refusal::StateDamaged`] for the record's own clock and margin.
+    #[doc(alias = "silotwist_enable")]
     pub fn enable(&mut self) -> Result<(), Refusal> {
         ask(|answer| ffi::silotwist_enable(&mut self.memory.record[..], answer))?;
         Ok(())
@@ -68,6 +71,7 @@ impl<'a> Scheduler<'a> {
     /// Disables the release: what is due is handed out as [`Flag::Disabled`](crate::Flag::Disabled).
     ///
     /// Refuses [`Refusal::StateDamaged`] for the record's own clock and margin.
+    #[doc(alias = "silotwist_disable")]
     pub fn disable(&mut self) -> Result<(), Refusal> {
         ask(|answer| ffi::silotwist_disable(&mut self.memory.record[..], answer))?;
         Ok(())
@@ -81,6 +85,7 @@ impl<'a> Scheduler<'a> {
     /// The number of entries.
     ///
     /// Refuses 1 to 3.
+    #[doc(alias = "silotwist_count")]
     pub fn count(&self) -> Result<usize, Refusal> {
         Ok(ask_all!(&silotwist_count, self)?[0] as usize)
     }
@@ -91,6 +96,7 @@ impl<'a> Scheduler<'a> {
     /// Refuses 1 to 3; for the outer packet [`Refusal::TcUnreadable`], [`Refusal::WrongService`],
     /// [`Refusal::WrongSubservice`], [`Refusal::TcDataEmpty`], [`Refusal::BadTimestamp`]; then as
     /// [`insert_unwrapped_tc`](Scheduler::insert_unwrapped_tc) from [`Refusal::TcUnreadable`] on.
+    #[doc(alias = "silotwist_insert_wrapped")]
     pub fn insert_wrapped_tc(&mut self, packet: &[u8]) -> Result<TcInfo, Refusal> {
         let words = ask_all!(&mut silotwist_insert_wrapped, self, packet)?;
         Ok(TcInfo { addr: StoreAddr(words[0]), request_id: RequestId(words[1]) })
@@ -101,6 +107,7 @@ impl<'a> Scheduler<'a> {
     /// Refuses 1 to 3, [`Refusal::BadTime`], [`Refusal::TcUnreadable`], [`Refusal::NestedScheduledTc`],
     /// [`Refusal::DataTooLarge`], [`Refusal::StoreFull`], [`Refusal::ReleaseTimeInTimeMargin`],
     /// [`Refusal::ScheduleFull`].
+    #[doc(alias = "silotwist_insert_unwrapped")]
     pub fn insert_unwrapped_tc(
         &mut self, release: UnixTime, packet: &[u8],
     ) -> Result<TcInfo, Refusal> {
@@ -112,6 +119,7 @@ impl<'a> Scheduler<'a> {
     /// Inserts an entry for a packet that the store has already. The address is kept as given and not judged.
     ///
     /// Refuses 1 to 3, [`Refusal::BadTime`], [`Refusal::ReleaseTimeInTimeMargin`], [`Refusal::ScheduleFull`].
+    #[doc(alias = "silotwist_insert_stored")]
     pub fn insert_unwrapped_and_stored_tc(
         &mut self, release: UnixTime, tc: TcInfo,
     ) -> Result<(), Refusal> {
@@ -123,6 +131,7 @@ impl<'a> Scheduler<'a> {
     /// The entries of a window.
     ///
     /// Refuses 1 to 3, [`Refusal::BadTime`], [`Refusal::ReversedWindow`].
+    #[doc(alias = "silotwist_window")]
     pub fn retrieve_by_time_filter(&self, window: TimeWindow) -> Result<Entries<'_>, Refusal> {
         let [(from, a), (to, b)] = window.ends();
         let words = ask_all!(&silotwist_window, self, from, a.secs, a.nanos, to, b.secs, b.nanos)?;
@@ -132,6 +141,7 @@ impl<'a> Scheduler<'a> {
     /// Deletes the entries of a window and their packets.
     ///
     /// Refuses 1 to 3, [`Refusal::BadTime`], [`Refusal::ReversedWindow`].
+    #[doc(alias = "silotwist_delete_window")]
     pub fn delete_by_time_filter(&mut self, window: TimeWindow) -> Result<Tally, Refusal> {
         let [(from, a), (to, b)] = window.ends();
         ask_all!(&mut silotwist_delete_window, self, from, a.secs, a.nanos, to, b.secs, b.nanos)
@@ -141,6 +151,7 @@ impl<'a> Scheduler<'a> {
     /// Deletes all entries and their packets, and disables.
     ///
     /// Refuses 1 to 3.
+    #[doc(alias = "silotwist_reset")]
     pub fn reset(&mut self) -> Result<Tally, Refusal> {
         ask_all!(&mut silotwist_reset, self).map(Tally::of)
     }
@@ -149,6 +160,7 @@ impl<'a> Scheduler<'a> {
     /// request ID the last such entry. None where no entry has it.
     ///
     /// Refuses 1 to 3.
+    #[doc(alias = "silotwist_delete_by_id_keep")]
     pub fn delete_by_request_id(&mut self, id: RequestId) -> Result<Option<StoreAddr>, Refusal> {
         let words = ask_all!(&mut silotwist_delete_by_id_keep, self, id.0)?;
         Ok((words[0] == 1).then_some(StoreAddr(words[1])))
@@ -157,6 +169,7 @@ impl<'a> Scheduler<'a> {
     /// As [`delete_by_request_id`](Scheduler::delete_by_request_id), and deletes the packet too.
     ///
     /// Refuses 1 to 3.
+    #[doc(alias = "silotwist_delete_by_id")]
     pub fn delete_by_request_id_and_from_pool(&mut self, id: RequestId) -> Result<Freed, Refusal> {
         ask_all!(&mut silotwist_delete_by_id, self, id.0).map(Freed::of)
     }
@@ -166,6 +179,7 @@ impl<'a> Scheduler<'a> {
     /// first 1,048,576 bytes are used; what lies behind the records stays.
     ///
     /// Refuses 1 to 3, [`Refusal::LogTooSmall`].
+    #[doc(alias = "silotwist_tick")]
     pub fn tick<'l>(
         &mut self, log: &'l mut [u8], limit: u64, packets: Packets,
     ) -> Result<Ticked<'l>, Refusal> {

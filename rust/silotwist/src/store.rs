@@ -32,6 +32,7 @@ impl<'a> Store<'a> {
     /// spilling, later subpools are tried in turn.
     ///
     /// Refuses 1 to 3, [`Refusal::DataTooLarge`], [`Refusal::StoreFull`].
+    #[doc(alias = "silotwist_store_add")]
     pub fn add(&mut self, data: &[u8]) -> Result<StoreAddr, Refusal> {
         let (setup, store, lens) = (self.setup.words(), &mut *self.bytes, &mut *self.lens);
         let words = ask(|answer| ffi::silotwist_store_add(setup, store, lens, data, answer))?;
@@ -42,6 +43,7 @@ impl<'a> Store<'a> {
     ///
     /// Refuses 1 to 3, [`Refusal::InvalidSubpool`], [`Refusal::InvalidPacketIdx`], [`Refusal::DataDoesNotExist`],
     /// [`Refusal::BufferTooSmall`].
+    #[doc(alias = "silotwist_store_read")]
     pub fn read(&self, addr: StoreAddr, buffer: &mut [u8]) -> Result<usize, Refusal> {
         let (setup, store, lens) = (self.setup.words(), &*self.bytes, &*self.lens);
         let words =
@@ -52,6 +54,7 @@ impl<'a> Store<'a> {
     /// The length of the packet that [`modify_part`](Store::modify_part) would lend.
     ///
     /// Refuses 1 to 3, [`Refusal::InvalidSubpool`], [`Refusal::InvalidPacketIdx`], [`Refusal::DataDoesNotExist`].
+    #[doc(alias = "silotwist_store_modify")]
     pub fn modify(&self, addr: StoreAddr) -> Result<usize, Refusal> {
         let (setup, store, lens) = (self.setup.words(), &*self.bytes, &*self.lens);
         let words = ask(|answer| ffi::silotwist_store_modify(setup, store, lens, addr.0, answer))?;
@@ -61,6 +64,7 @@ impl<'a> Store<'a> {
     /// Lends a packet's bytes for writing, where they lie in the store.
     ///
     /// Refuses as [`modify`](Store::modify).
+    #[doc(alias = "silotwist_store_part")]
     pub fn modify_part(&mut self, addr: StoreAddr) -> Result<&mut [u8], Refusal> {
         let (setup, store, lens) = (self.setup.words(), &*self.bytes, &*self.lens);
         let words = ask(|answer| ffi::silotwist_store_part(setup, store, lens, addr.0, answer))?;
@@ -71,6 +75,7 @@ impl<'a> Store<'a> {
     /// Deletes a packet: its whole slot is zeroed and free.
     ///
     /// Refuses 1 to 3, [`Refusal::InvalidSubpool`], [`Refusal::InvalidPacketIdx`], [`Refusal::DataDoesNotExist`].
+    #[doc(alias = "silotwist_store_delete")]
     pub fn delete(&mut self, addr: StoreAddr) -> Result<(), Refusal> {
         let (setup, store, lens) = (self.setup.words(), &mut *self.bytes, &mut *self.lens);
         ask(|answer| ffi::silotwist_store_delete(setup, store, lens, addr.0, answer))?;
@@ -80,6 +85,7 @@ impl<'a> Store<'a> {
     /// Whether there is a packet, an empty one too.
     ///
     /// Refuses 1 to 3, [`Refusal::InvalidSubpool`], [`Refusal::InvalidPacketIdx`].
+    #[doc(alias = "silotwist_store_has")]
     pub fn has_element_at(&self, addr: StoreAddr) -> Result<bool, Refusal> {
         let (setup, store, lens) = (self.setup.words(), &*self.bytes, &*self.lens);
         let words = ask(|answer| ffi::silotwist_store_has(setup, store, lens, addr.0, answer))?;
@@ -89,6 +95,7 @@ impl<'a> Store<'a> {
     /// The length of a packet, 0 where the slot is free.
     ///
     /// Refuses 1 to 3, [`Refusal::InvalidSubpool`], [`Refusal::InvalidPacketIdx`].
+    #[doc(alias = "silotwist_store_len")]
     pub fn len_of_data(&self, addr: StoreAddr) -> Result<usize, Refusal> {
         let (setup, store, lens) = (self.setup.words(), &*self.bytes, &*self.lens);
         let words = ask(|answer| ffi::silotwist_store_len(setup, store, lens, addr.0, answer))?;
