@@ -19,7 +19,7 @@ use Rattle.time.specs.Time.{inRange}
 use Rattle.store.specs.View.{view}
 use Rattle.time.specs.declared.UnixTime.{UnixTime}
 use Rattle.insertions.specs.Inserting.{activity, entered, insertTc, insertUnwrappedIn, nested, timed}
-use Rattle.insertions.specs.Inside.{FirstRefusal, Gate}
+use Rattle.insertions.specs.Inside.{firstPaper, Gate}
 use Rattle.schedule.specs.Promise.{Does}
 use Rattle.schedule.specs.State.{State, stateOf, withPools}
 use Rattle.schedule.specs.declared.Setup.{Setup}
@@ -57,15 +57,16 @@ module _ (su : Setup) (r : Record) (st le ro : List ℕ) (t : UnixTime) (tc : Li
     does-nested e = does-refused su r st le ro _ (no 10 []) (nested-refused su t tc (stateOf su r st le ro) h e)
 
     module _ (e : nested h ≡ false) where
-      pub does-blocked : (v : Verdict) (own x : ScheduleRefusal) → Gate su r t v → v ≡ Ve.Refused own
-          → FirstRefusal (addIn (su .store .spill) (view (su .store) st le) tc) own x
-          → Does su r st le ro (λ s. activity su t tc s (Packet h)) (paper x) r st le ro
+      pub does-blocked : (v : Verdict) (own : ScheduleRefusal) (p : Paper) → Gate su r t v → v ≡ Ve.Refused own
+          → p ≡ firstPaper (addIn (su .store .spill) (view (su .store) st le) tc) own
+          → Does su r st le ro (λ s. activity su t tc s (Packet h)) p r st le ro
       unfolding stateOf
-      does-blocked v own x g q f =
-          does-refused su r st le ro _ (paper x)
+      does-blocked v own p g q f =
+          rw f
+          (does-refused su r st le ro _ (firstPaper (addIn (su .store .spill) (view (su .store) st le) tc) own)
           (plain-enters su t tc (stateOf su r st le ro) h e
-          ∙ blocked su t (idWord (idOf h)) (stateOf su r st le ro) _ own x f
-          (λ a vs ps. gate-refused su r t v own g q (idWord (idOf h)) a vs (withPools ps (stateOf su r st le ro)) (record-same su r st le ro)))
+          ∙ blocked su t (idWord (idOf h)) (stateOf su r st le ro) _ own
+          (λ a vs ps. gate-refused su r t v own g q (idWord (idOf h)) a vs (withPools ps (stateOf su r st le ro)) (record-same su r st le ro))))
 
       pub does-plain : (id : ℕ) (p : Paper) (r′ : Record) (st′ le′ ro′ : List ℕ) → id ≡ idWord (idOf h)
           → Does su r st le ro (λ s. entered su t id s (addIn (su .store .spill) (s .pools) tc)) p r′ st′ le′ ro′

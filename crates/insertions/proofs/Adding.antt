@@ -18,8 +18,10 @@ use Rattle.rules.specs.Tests.{unless}
 use Rattle.store.proofs.Numbers.{not-done}
 use Rattle.store.specs.Calls.{addIn, place}
 use Rattle.store.specs.Pools.{Choice, Pool, allTaken, choose, into, tooLarge}
-use Rattle.store.specs.Refusals.{paper as storePaper}
+use Rattle.store.specs.Refusals.{addedPaper, paper as storePaper}
 use Rattle.store.specs.View.{Leaves, view}
+use Rattle.store.specs.declared.Added.{Added}
+use Rattle.store.specs.declared.Added.the-variants as A
 use Rattle.store.specs.declared.StoreRefusal.{StoreRefusal}
 use Rattle.table.proofs.Rows.{length-unpack}
 use Rattle.table.proofs.Stays.{length-insertSorted}
@@ -29,9 +31,10 @@ use Rattle.time.specs.Time.{inTimeMargin, momentOf}
 use Rattle.time.specs.declared.UnixTime.{UnixTime}
 use Rattle.insertions.specs.Answers.{insertedPaper}
 use Rattle.insertions.specs.Inserting.{activity, enter, entered, nested}
-use Rattle.insertions.specs.Inside.{FirstRefusal}
+use Rattle.insertions.specs.Inside.{firstPaper, firstRefusal}
 use Rattle.schedule.specs.State.{State, recordOf, stateOf, withCount, withEntries, withPools}
 use Rattle.schedule.specs.Promise.{Does}
+use Rattle.insertions.specs.declared.InsertAnswer.{InsertAnswer}
 use Rattle.insertions.specs.declared.InsertAnswer.the-variants.{Inserted, Refused}
 use Rattle.schedule.specs.declared.Setup.{Setup}
 use Rattle.insertions.proofs.Gates.{enters}
@@ -61,27 +64,25 @@ says-done (refused p) a q h = absurd (h p refl (sym (ap (λ (x : Paper). x .numb
 says-done (done vs ps) a q h = ap (λ (l : List ℕ). done l ps) (sym (ap (λ (x : Paper). x .values) q))
 
 -- the first refusal of a command that 13 or 14 stops
-pub first-store : (o : Outcome (List Pool)) (own : ScheduleRefusal) (x : StoreRefusal) → storePaper x ≡ says o → FirstRefusal o own (Store x)
-unfolding says paper
-first-store (refused p) own x q = q
-first-store (done vs ps) own x q = absurd (not-done x vs q)
+first-by : (o : Outcome (List Pool)) (own : ScheduleRefusal) (a : Added) → addedPaper a ≡ says o
+    → ((p : Paper) → o ≡ refused p → p .number ≡ 0 → ⊥) → paper (firstRefusal a own) ≡ firstPaper o own
+unfolding addedPaper says paper firstRefusal firstPaper
+first-by (refused p) own (A.Refused x) q h = q
+first-by (refused p) own (A.At n) q h = absurd (h p refl (sym (ap (λ (x : Paper). x .number) q)))
+first-by (done vs ps) own (A.Refused x) q h = absurd (not-done x vs q)
+first-by (done vs ps) own (A.At n) q h = refl
 
-first-own-by : (o : Outcome (List Pool)) (own : ScheduleRefusal) (a : ℕ) → no 0 (a ∷ []) ≡ says o
-    → ((p : Paper) → o ≡ refused p → p .number ≡ 0 → ⊥) → FirstRefusal o own own
-unfolding says
-first-own-by (refused p) own a q h = absurd (h p refl (sym (ap (λ (x : Paper). x .number) q)))
-first-own-by (done vs ps) own a q h = refl
+pub answers-first : (spill : Bool) (ps : List Pool) (d : List ℕ) (own e : ScheduleRefusal) (a : Added) (r : InsertAnswer) → r ≡ Refused e → e ≡ firstRefusal a own
+    → addedPaper a ≡ says (addIn spill ps d) → insertedPaper r ≡ firstPaper (addIn spill ps d) own
+unfolding insertedPaper
+answers-first spill ps d own e a r p q s = rw (p, q) (first-by (addIn spill ps d) own a s (add-numbered spill ps d))
 
-pub first-own : (spill : Bool) (ps : List Pool) (d : List ℕ) (own : ScheduleRefusal) (a : ℕ) → no 0 (a ∷ []) ≡ says (addIn spill ps d)
-    → FirstRefusal (addIn spill ps d) own own
-first-own spill ps d own a q = first-own-by (addIn spill ps d) own a q (add-numbered spill ps d)
-
-pub blocked : (su : Setup) (t : UnixTime) (id : ℕ) (s : State) (o : Outcome (List Pool)) (own x : ScheduleRefusal) → FirstRefusal o own x
+pub blocked : (su : Setup) (t : UnixTime) (id : ℕ) (s : State) (o : Outcome (List Pool)) (own : ScheduleRefusal)
     → ((a : ℕ) (vs : List ℕ) (ps : List Pool) → enter su t id a vs (withPools ps s) ≡ refused (paper own))
-    → entered su t id s o ≡ refused (paper x)
-unfolding entered
-blocked su t id s (refused p) own x f g = ap refused (sym f)
-blocked su t id s (done vs ps) own x f g = g (getD vs 0 0) (getD vs 0 0 ∷ id ∷ []) ps ∙ ap (λ (e : ScheduleRefusal). refused (paper e)) (sym f)
+    → entered su t id s o ≡ refused (firstPaper o own)
+unfolding entered firstPaper
+blocked su t id s (refused p) own g = refl
+blocked su t id s (done vs ps) own g = g (getD vs 0 0) (getD vs 0 0 ∷ id ∷ []) ps
 
 -- a readable command, by whether it is itself an insertion
 module _ (su : Setup) (t : UnixTime) (tc : List ℕ) (s : State) (h : Header) where

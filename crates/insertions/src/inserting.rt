@@ -22,7 +22,7 @@ ghost use Rattle.store.specs.View.{view};
 ghost use Rattle.time.specs.Time.{InRange, inTimeMargin};
 ghost use Rattle.insertions.specs.Answers.{insertedPaper};
 ghost use Rattle.insertions.specs.Inserting.{activity, entered, insertTc, insertUnwrappedIn, nested as nestedOf};
-ghost use Rattle.insertions.specs.Inside.{FirstRefusal};
+ghost use Rattle.insertions.specs.Inside.{firstPaper, firstRefusal};
 ghost use Rattle.schedule.specs.Judge.{Sound};
 ghost use Rattle.schedule.specs.Promise.{Does};
 
@@ -93,26 +93,32 @@ fn insert_readable(
     let id = h.request_id().as_u64();
     let g = gate::gate(setup, rec, release);
     match g {
-        Verdict::Refused(e) => {
-            let s = setup.store;
-            refuse(rec, first_refusal(s, store, lens, tc, e))
-        }
+        Verdict::Refused(e) => refuse_unstored(setup, rec, store, lens, tc, e),
         Verdict::Fine => store_and_enter(setup, rec, store, lens, rows, release, tc, id),
     }
 }
 
-// The store's 11 and 12 come before the schedule's 13 and 14.
-fn first_refusal(
-    setup: store::Setup,
-    store: &[u8],
-    lens: &[u16],
+// 13 or 14: nothing is stored, and the store's 11 and 12 come first.
+fn refuse_unstored(
+    setup: Setup,
+    rec: Record,
+    store: &mut [u8],
+    lens: &mut [u16],
     tc: &[u8],
     own: ScheduleRefusal,
-) -> ScheduleRefusal
-    requires { ⌜ StoreSound setup (now store) (now lens) ⌝ }
-    ensures { λ r. ⌜ FirstRefusal (addIn (setup .spill) (view setup (now (store .entry)) (now (lens .entry))) (now (tc .entry))) own r ⌝ }
+) -> Inserted
+    requires { ⌜ StoreSound (setup .store) (now store) (now lens) ⌝ }
+    ensures { λ c. ⌜ (insertedPaper (c .answer) ≡ firstPaper (addIn (setup .store .spill) (view (setup .store) (now (store .entry)) (now (lens .entry))) (now (tc .entry))) own)
+        × (c .next ≡ rec) × (now (store .exit) ≡ now (store .entry)) × (now (lens .exit) ≡ now (lens .entry)) ⌝ }
 {
-    let a = store::judged::would_add(setup, store, lens, tc);
+    let s = setup.store;
+    let a = store::judged::would_add(s, store, lens, tc);
+    refuse(rec, first_refusal(a, own))
+}
+
+fn first_refusal(a: Added, own: ScheduleRefusal) -> ScheduleRefusal
+    ensures { λ r. ⌜ r ≡ firstRefusal a own ⌝ }
+{
     match a {
         Added::Refused(x) => ScheduleRefusal::Store(x),
         Added::At(_) => own,

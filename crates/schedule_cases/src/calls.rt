@@ -1,4 +1,4 @@
-// The calls that start a schedule, count it and change the record alone; the others are in `inserting` and `deleting`.
+// The calls that start a schedule, count it and change the record alone, in place; the others are in `inserting` and `deleting`.
 use crate::inserting;
 use crate::line;
 use crate::show;
@@ -22,13 +22,13 @@ pub fn run(
         return count(setup, rec, store, lens, rows);
     }
     if k == line::CLOCK {
-        return change(rec.clocked(line::time(text, 1)));
+        return change(in_place::set_clock(rec, line::time(text, 1)));
     }
     if k == line::ENABLE {
-        return change(rec.marked(true));
+        return change(in_place::enable(rec));
     }
     if k == line::DISABLE {
-        return change(rec.marked(false));
+        return change(in_place::disable(rec));
     }
     inserting::run(setup, rec, k, text, store, lens, rows)
 }

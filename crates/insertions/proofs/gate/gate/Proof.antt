@@ -23,10 +23,10 @@ returns-2 : tie.Need-returns-2
 returns-2 c =
     let e = c .before .before .before in
     let a = e .before .before .before .before .args in
-    full (a .setup) (a .rec) (a .release) (timely e) (c .if2 .taken)
+    full (a .setup) (a .rec) (a .release) (timely e) (omega (arith, c .if2 .taken))
 
 returns-3 : tie.Need-returns-3
-returns-3 c = (timely (c .before .before .before), c .if2 .left)
+returns-3 c = (timely (c .before .before .before), omega (arith, c .if2 .left))
 
 pub gate-spec : {M : Type 1} → statement M
 gate-spec = tie.close (tie.spec (λ c κs. search needs) returns returns-2 returns-3)

@@ -32,9 +32,9 @@ gate-requires c κs =
     let f = facts (s .pre .0) in
     (f .clock, (f .margin, s .pre .1))
 
-first-refusal-requires : tie.Need-first-refusal-requires
-first-refusal-requires c κs =
-    let g = c .before .before .before .before .before .before in
+refuse-unstored-requires : tie.Need-refuse-unstored-requires
+refuse-unstored-requires c κs =
+    let g = c .before .before .before .before .before in
     facts (g .before .before .before .before .before .before .before .before .before .pre .0) .store
 
 store-and-enter-requires : tie.Need-store-and-enter-requires
@@ -44,16 +44,16 @@ store-and-enter-requires c κs =
     (s .pre .0, (s .pre .1, gate-fine (s .args .setup) (s .args .rec) (s .args .release) _ (g .gate .ensures) (c .before .before .before .enum-told .given .1)))
 
 returns-2 : tie.Need-returns-2
-unfolding insertedPaper
 returns-2 c =
-    let f = c .before in
-    let k = f .before .before .before .before .before in
+    let u = c .before .before .before .before in
+    let k = u .before .before .before .before in
     let g = k .before .before in
     let e = g .before .before .before in
     let a = e .before .before .before .before .before .before .args in
-    rw (c .refuse2 .ensures .0, c .refuse2 .ensures .1)
+    let p = u .refuse-unstored .ensures in
+    rw (p .1, p .2, p .3)
     (does-blocked (a .setup) (a .rec) (a .store .now) (a .lens .now) (a .rows .now) (a .release) (a .tc .now) (a .h) (plain e) _ _ _ (g .gate .ensures)
-    (k .g .given .1) (f .first-refusal .ensures))
+    (k .g .given .1) (p .0))
 
 returns-3 : tie.Need-returns-3
 returns-3 c =
@@ -76,8 +76,7 @@ insert-readable-spec =
     (λ c κs. search needs)
     gate-requires
     (λ c. search needs)
-    first-refusal-requires
-    (λ c κs. search needs)
+    refuse-unstored-requires
     (λ c. search needs)
     store-and-enter-requires
     (λ c. search needs)

@@ -1,0 +1,2 @@
+-- What the walks of the three calls share.
+pub mod Lent

@@ -1,0 +1,12 @@
+-- `insertions::inserting::refuse_unstored` meets its contract.
+-- Assumes nothing.
+use borrow.Author.Needs.{needs}
+use Rattle.insertions.proofs.Adding.{answers-first}
+use Rattle.insertions.proofs.inserting.refuse_unstored.Statement.{statement}
+use Rattle.insertions.proofs.inserting.refuse_unstored.Tie as tie
+
+returns : tie.Need-returns
+returns c = search (needs, answers-first)
+
+pub refuse-unstored-spec : {M : Type 1} → statement M
+refuse-unstored-spec = tie.close (tie.spec (λ c κs. search needs) (λ c κs. search needs) (λ c κs. search needs) (λ c. search needs) (λ c. search needs) returns)
