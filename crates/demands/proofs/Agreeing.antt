@@ -1,16 +1,18 @@
 -- The promises determine answer, record and every lent byte, of one call and of any number of calls, for anything lent.
 use Prim.Native.Nat.{ℕ}
-use Rattle.demands.specs.Calling.{Calls, Changes, Lent, Looks, Marks, Modifies, ReadsInto, Runs, StoreChanges, StoreLooks, TicksOver}
+use Rattle.demands.specs.Calling.{Calls, Changes, Lent, Looks, Marks, Modifies, Promised, ReadsInto, Runs, StartsOver, StoreChanges, StoreLooks, TicksOver, freshStart, request}
 use Rattle.demands.specs.Demands.{OneOutcome, RunsAgree}
 use Rattle.record.specs.declared.Record.{Record}
-use Rattle.rules.specs.Papers.{Outcome, Paper}
+use Rattle.rules.specs.Papers.{Outcome}
 use Rattle.schedule.specs.State.{State}
 use Rattle.schedule.specs.declared.Setup.{Setup}
-use Rattle.scheduler.proofs.OneOutcome.{one-outcome}
+use Rattle.scheduler.proofs.OneOutcome.{one-outcome, one-start}
 use Rattle.scheduler.proofs.Releasing.{one-tick}
 use Rattle.scheduler.specs.Laws.{Same}
 use Rattle.scheduler.specs.Steps.{Answer, Request, add, count, delete, deleteById, deleteKeeping, deleteWindow, disable, enable, hasElementAt, insertStored, insertUnwrapped, insertWrapped, lenOfData, modify, read, reset, retrieve, setClock, tick}
 use Rattle.store.specs.Pools.{Pool}
+use Rattle.time.specs.declared.Margin.{Margin}
+use Rattle.time.specs.declared.UnixTime.{UnixTime}
 use mathlib.Core.Bool.{Bool}
 use mathlib.Core.List.{List, [], _∷_}
 use mathlib.Core.Path.{_∙_, _≡_, refl, subst, sym}
@@ -21,6 +23,11 @@ module _ (su : Setup) (t : Lent) (x y : Answer) (u v : Lent) where
 
   lents : Same (v .rec) (u .rec) (v .store) (u .store) (v .lens) (u .lens) (v .rows) (u .rows) → u ≡ v
   lents s = λ i. record { rec = s .record-is i; store = s .store-is i; lens = s .lens-is i; rows = s .rows-is i }
+
+  starts : (clock : UnixTime) (margin : Margin) → StartsOver su t x u clock margin → StartsOver su t y v clock margin → (x ≡ y) × (u ≡ v)
+  starts clock margin c d =
+      let o = one-start su _ _ _ _ _ _ _ _ _ _ _ _ _ _ _ (c .tables) (d .tables) in
+      (answers (o .0) (c .buffer ∙ sym (d .buffer)), lents (o .1))
 
   changes : (call : State → Outcome State) → Changes su t x u call → Changes su t y v call → (x ≡ y) × (u ≡ v)
   changes call c d =
@@ -87,8 +94,9 @@ module _ (su : Setup) (t : Lent) (x y : Answer) (u v : Lent) where
   agree (tick limit del log) c e = ticks limit del log c e
 
 pub one-outcome-each : OneOutcome
-unfolding OneOutcome
-one-outcome-each su q t x y u v c d = agree su t x y u v q c d
+unfolding OneOutcome Promised
+one-outcome-each su (freshStart clock margin) t x y u v c d = starts su t x y u v clock margin c d
+one-outcome-each su (request q) t x y u v c d = agree su t x y u v q c d
 
 same-cons : (x y : Answer) (xs ys : List Answer) → x ≡ y → xs ≡ ys → x ∷ xs ≡ y ∷ ys
 same-cons x y xs ys e f = rw (e, f)

@@ -1,10 +1,10 @@
 -- One call on a sound scheduler: what its promise allows is what the step of its request says, and the scheduler is sound again.
 use Prim.Native.Nat.{_+_, _≤_, ℕ}
 use Rattle.demands.specs.Calling.{Calls, Lent, Modifies}
-use Rattle.rules.specs.Papers.{Paper, after, done, into, no, refused, says}
+use Rattle.rules.specs.Papers.{after, done, into, says}
 use Rattle.schedule.proofs.Facts.{facts}
 use Rattle.schedule.specs.Judge.{Sound}
-use Rattle.schedule.specs.State.{State, stateOf, withPools}
+use Rattle.schedule.specs.State.{State, stateOf}
 use Rattle.schedule.specs.declared.Setup.{Setup}
 use Rattle.scheduler.proofs.Releasing.{tick-steps}
 use Rattle.scheduler.proofs.Stepping.{add-steps, by-id-steps, clock-steps, count-tells, delete-steps, disable-steps, enable-steps, has-tells, keeping-steps, len-tells, modify-steps, read-tells, reset-steps, retrieve-tells, stored-steps, unwrapped-steps, window-steps, wrapped-steps}
@@ -14,7 +14,7 @@ use Rattle.scheduler.specs.Steps.{Answer, Request, add, carried, count, delete,
 use Rattle.store.proofs.Judging.{judging-fine}
 use Rattle.store.proofs.Lists.{part-length}
 use Rattle.store.proofs.Packets.{packet-there}
-use Rattle.store.specs.Calls.{ifHeld, ifNamed, judging, packetIn}
+use Rattle.store.specs.Calls.{ifHeld, ifNamed, packetIn}
 use Rattle.store.specs.Judge.{Sound as StoreSound}
 use Rattle.store.specs.Pools.{Found, find, held, noPool, noSlot, vacant}
 use Rattle.store.specs.View.{part, put, view}

@@ -1,8 +1,7 @@
--- Each request has a result that its promise allows, whatever is lent.
-use Prim.Native.Nat.{ℕ}
+-- Each call has a result that its promise allows, whatever is lent.
 use Rattle.deletions.specs.Deleting.{deleteByIdIn, deleteKeepingIn, deleteWindowIn, resetIn}
 use Rattle.deletions.specs.Windowing.{retrieveIn}
-use Rattle.demands.specs.Calling.{Calls, Changes, Lent, Looks, Marks, StoreChanges, StoreLooks}
+use Rattle.demands.specs.Calling.{Calls, Changes, Lent, Looks, Marks, Promised, StoreChanges, StoreLooks, freshStart, request}
 use Rattle.demands.specs.Demands.{Result, SomeOutcome, Whole}
 use Rattle.insertions.specs.Inserting.{insertStoredIn, insertUnwrappedIn, insertWrappedIn}
 use Rattle.record.specs.Record.{clockIn, markIn}
@@ -10,6 +9,7 @@ use Rattle.record.specs.declared.Record.{Record}
 use Rattle.rules.specs.Papers.{Outcome, Paper, after, says}
 use Rattle.schedule.specs.Counting.{countIn}
 use Rattle.schedule.specs.Judge.{judging}
+use Rattle.schedule.specs.Starting.{startIn}
 use Rattle.schedule.specs.State.{State, recordOf}
 use Rattle.schedule.specs.declared.Setup.{Setup}
 use Rattle.scheduler.specs.Steps.{Answer, Request, add, count, delete, deleteById, deleteKeeping, deleteWindow, disable, enable, hasElementAt, insertStored, insertUnwrapped, insertWrapped, lenOfData, modify, read, reset, retrieve, setClock, tick}
@@ -19,9 +19,12 @@ use Rattle.store.specs.View.{lensWith, storeWith}
 use Rattle.table.specs.Entries.{relaid}
 use Rattle.tick.specs.Promise.{left}
 use Rattle.tick.specs.Tick.{Logged, tickIn}
+use Rattle.time.specs.declared.Margin.{Margin}
+use Rattle.time.specs.declared.UnixTime.{UnixTime}
+use lib.ListN.{length}
 use mathlib.Core.Bool.{false, true}
 use mathlib.Core.List.{List, []}
-use mathlib.Core.Path.{_≡_, refl}
+use mathlib.Core.Path.{refl}
 
 abbrev plain : Paper → Answer
 plain p = record { paper = p; buffer = [] }
@@ -68,8 +71,24 @@ module _ (su : Setup) (t : Lent) where
       call
   store-changes call = record { tables = record { answer = refl; store = refl; lens = refl }; rec = refl; rows = refl; buffer = refl }
 
-  result : (q : Request) → Whole su q t → Result su q t
-  unfolding Calls
+  starts : (clock : UnixTime) (margin : Margin) → Result su (freshStart clock margin) t
+  unfolding Promised
+  starts clock margin =
+      let o : Outcome State = startIn su (length (t .store)) (length (t .lens)) (length (t .rows)) clock margin in
+      record {
+        answer = plain (says o);
+        left =
+            record {
+              rec = after o (t .rec) recordOf;
+              store = after o (t .store) (λ s. storeWith (su .store) (t .store) (s .pools));
+              lens = after o (t .lens) (λ s. lensWith (su .store) (t .lens) (s .pools));
+              rows = after o (t .rows) (λ s. relaid (t .rows) (su .entries) (s .entries));
+            };
+        call = record { tables = record { answer = refl; next = refl; store = refl; lens = refl; rows = refl }; buffer = refl };
+      }
+
+  result : (q : Request) → Whole su (request q) t → Result su (request q) t
+  unfolding Calls Promised
   result (add d) w = record { answer = _; left = _; call = store-changes (λ ps. addIn (su .store .spill) ps d) }
   result (read a buf) w =
       let o = storeJudged (λ ps. readIn ps a buf) in
@@ -112,4 +131,5 @@ module _ (su : Setup) (t : Lent) where
 
 pub some-outcome : SomeOutcome
 unfolding SomeOutcome
-some-outcome su q t w = result su t q w
+some-outcome su (freshStart clock margin) t w = starts su t clock margin
+some-outcome su (request q) t w = result su t q w

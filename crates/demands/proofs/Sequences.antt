@@ -1,18 +1,18 @@
 -- Calls one after another from a fresh start: they answer as the definitions say, none is damaged, and room changes no answer.
-use Prim.Native.Nat.{ℕ}
 use Rattle.demands.proofs.Following.{Fine, calls-follow, stands}
-use Rattle.demands.proofs.Undamaged.{step-own}
 use Rattle.demands.specs.Calling.{Begins, Lent, Runs}
 use Rattle.demands.specs.Demands.{AsTheModel, NeverDamaged, NoneDamaged, RoomChangesNoAnswer, SameAsTheModel}
 use Rattle.room.proofs.Demand.{room-never-changes-an-answer}
-use Rattle.room.specs.Room.{EveryNamed, RoomNeverChangesAnAnswer, Roomier, Spills, strike, struck}
+use Rattle.record.specs.Record.{timesInRange}
+use Rattle.room.specs.Room.{RoomNeverChangesAnAnswer, strike, struck}
 use Rattle.schedule.specs.Starting.{freshState}
-use Rattle.schedule.specs.State.{State}
+use Rattle.schedule.specs.State.{State, recordOf}
 use Rattle.schedule.specs.declared.Setup.{Setup}
+use Rattle.scheduler.proofs.Answering.{told}
 use Rattle.scheduler.proofs.Standing.{sound-fits}
 use Rattle.scheduler.proofs.StaysSound.{start-sound, start-state}
 use Rattle.scheduler.specs.Fits.{AllOfBytes, OfBytes}
-use Rattle.scheduler.specs.Steps.{Answer, Request, run, step}
+use Rattle.scheduler.specs.Steps.{Answer, Request, run}
 use Rattle.time.specs.declared.Margin.{Margin}
 use Rattle.time.specs.declared.UnixTime.{UnixTime}
 use mathlib.Core.Bool.{Bool, cond, false, true}
@@ -37,6 +37,10 @@ runs-follow su (q ∷ qs) t (x ∷ xs) u o s r =
       state = h .state ∙ ap (λ (z : State). run su qs z .state) (f .state);
     }
 
+-- a sound record's clock and margin are in range
+in-range : (su : Setup) (t : Lent) → Fine su t → timesInRange (recordOf (stands su t)) ≡ true
+in-range su t s = let f = sound-fits su (t .rec) (t .store) (t .lens) (t .rows) s in rw (f .clock, f .margin)
+
 runs-undamaged : (su : Setup) (qs : List Request) (t : Lent) (xs : List Answer) (u : Lent) → AllOfBytes qs → Fine su t → Runs su qs t xs u
     → NoneDamaged xs
 unfolding Runs
@@ -46,7 +50,7 @@ runs-undamaged su (q ∷ qs) t [] u o s r = absurd r
 runs-undamaged su (q ∷ qs) t (x ∷ xs) u o s r =
     let f = calls-follow su t x (r .left) s q (o .0) (r .call) in
     let e = ap (λ (y : Answer). y .paper .number) (f .answer) in
-    let k = step-own su q (stands su t) (sound-fits su (t .rec) (t .store) (t .lens) (t .rows) s) in (
+    let k = told su (stands su t) q .undamaged (in-range su t s) in (
       (
         λ z. k 1 (omega arith) (omega arith) (sym e ∙ z),
         λ z. k 2 (omega arith) (omega arith) (sym e ∙ z),
@@ -58,13 +62,13 @@ runs-undamaged su (q ∷ qs) t (x ∷ xs) u o s r =
 module _ (su : Setup) (clock : UnixTime) (margin : Margin) (t u : Lent) (b : Begins su clock margin t u) where
   pub begun-fine : Fine su u
   begun-fine =
-      start-sound su (t .rec) (t .store) (t .lens) (t .rows) clock margin (b .answer) (u .rec) (u .store) (u .lens) (u .rows)
-      (b .starts) (b .not-refused)
+      start-sound su (t .rec) (t .store) (t .lens) (t .rows) clock margin (b .answer .paper) (u .rec) (u .store) (u .lens) (u .rows)
+      (b .starts .tables) (b .not-refused)
 
   pub begun-state : stands su u ≡ freshState su clock margin
   begun-state =
-      start-state su (t .rec) (t .store) (t .lens) (t .rows) clock margin (b .answer) (u .rec) (u .store) (u .lens) (u .rows)
-      (b .starts) (b .not-refused)
+      start-state su (t .rec) (t .store) (t .lens) (t .rows) clock margin (b .answer .paper) (u .rec) (u .store) (u .lens) (u .rows)
+      (b .starts .tables) (b .not-refused)
 
 pub same-as-the-model : SameAsTheModel
 unfolding SameAsTheModel
@@ -88,10 +92,10 @@ struck-bytes [] qs o = tt
 struck-bytes (x ∷ xs) [] o = tt
 struck-bytes (x ∷ xs) (q ∷ qs) o = one-bytes (struck (x .paper)) q (strike xs qs) (o .0) (struck-bytes xs qs (o .1))
 
-pub room-changes-no-answer : RoomChangesNoAnswer false
+pub room-changes-no-answer : (larger : Bool) → RoomChangesNoAnswer false larger
 unfolding RoomChangesNoAnswer RoomNeverChangesAnAnswer SameAsTheModel
-room-changes-no-answer su lu clock margin qs before fresh end before′ fresh′ end′ given given′ m off named o b r b′ r′ =
+room-changes-no-answer larger su lu clock margin qs before fresh end before′ fresh′ end′ given given′ m off named o b r b′ r′ =
     let e = same-as-the-model su clock margin before fresh qs given end b o r .answers in
     let f = same-as-the-model lu clock margin before′ fresh′ (strike given qs) given′ end′ b′ (struck-bytes given qs o) r′ .answers in
     f ∙ subst (λ (g : List Answer). run lu (strike g qs) (freshState lu clock margin) .answers ≡ strike g g) (sym e)
-    (room-never-changes-an-answer su lu clock margin qs (begun-fine su clock margin before fresh b .setup) m off named)
+    (room-never-changes-an-answer larger su lu clock margin qs (begun-fine su clock margin before fresh b .setup) m off named)

@@ -1,18 +1,18 @@
--- What a request's call may do to what is lent, by the call's own promise; and calls one after another.
+-- What a call may do to what is lent, by its own promise; and calls one after another.
 use Prim.Native.Nat.{ℕ}
 use Rattle.deletions.specs.Deleting.{deleteByIdIn, deleteKeepingIn, deleteWindowIn, resetIn}
 use Rattle.deletions.specs.Windowing.{retrieveIn}
 use Rattle.insertions.specs.Inserting.{insertStoredIn, insertUnwrappedIn, insertWrappedIn}
 use Rattle.record.specs.Record.{clockIn, markIn}
 use Rattle.record.specs.declared.Record.{Record}
-use Rattle.rules.specs.Papers.{Outcome, Paper, after, says}
+use Rattle.rules.specs.Papers.{Outcome, after, says}
 use Rattle.schedule.specs.Counting.{countIn}
 use Rattle.schedule.specs.Judge.{judging}
 use Rattle.schedule.specs.Promise.{Writes}
 use Rattle.schedule.specs.Starting.{Starts, startIn}
 use Rattle.schedule.specs.State.{State}
 use Rattle.schedule.specs.declared.Setup.{Setup}
-use Rattle.scheduler.specs.Steps.{Answer, Request, add, count, delete, deleteById, deleteKeeping, deleteWindow, disable, enable, hasElementAt, insertStored, insertUnwrapped, insertWrapped, lenOfData, modify, read, reset, retrieve, setClock, tick}
+use Rattle.scheduler.specs.Steps.{Answer, Request, add, bufferOf, count, delete, deleteById, deleteKeeping, deleteWindow, disable, enable, hasElementAt, insertStored, insertUnwrapped, insertWrapped, lenOfData, modify, read, reset, retrieve, setClock, tick}
 use Rattle.store.specs.Calls.{addIn, deleteIn, hasIn, judging as storeJudging, lenIn, packetIn, readIn}
 use Rattle.store.specs.Pools.{Pool}
 use Rattle.store.specs.Promise.{Reads, Writes as StoreWrites, startOf}
@@ -34,6 +34,12 @@ pub record Lent : Type 0 where
   pub rows : List ℕ
 
 module _ (su : Setup) (t : Lent) (x : Answer) (u : Lent) where
+  -- the fresh start: no buffer is lent
+  pub record StartsOver (clock : UnixTime) (margin : Margin) : Type 0 where
+    pub tables : Starts su (t .rec) (t .store) (t .lens) (t .rows)
+        (startIn su (length (t .store)) (length (t .lens)) (length (t .rows)) clock margin) (x .paper) (u .rec) (u .store) (u .lens) (u .rows)
+    pub buffer : x .buffer ≡ []
+
   -- an insertion or a deletion of the schedule: no buffer is lent
   pub record Changes (call : State → Outcome State) : Type 0 where
     pub tables : Writes su (t .rec) (t .store) (t .lens) (t .rows)
@@ -115,6 +121,20 @@ Calls su (deleteKeeping id) t x u = Changes su t x u (deleteKeepingIn id)
 Calls su (deleteById id) t x u = Changes su t x u (deleteByIdIn id)
 Calls su (tick limit del log) t x u = TicksOver su t x u limit del log
 
+-- every call of 01: the fresh start, or a request's
+pub data Call : Type 0 where
+  freshStart : UnixTime → Margin → Call
+  request : Request → Call
+
+-- its promise, and the buffer that it is lent
+unfoldable pub Promised : Setup → Call → Lent → Answer → Lent → Type 0
+Promised su (freshStart clock margin) t x u = StartsOver su t x u clock margin
+Promised su (request q) t x u = Calls su q t x u
+
+unfoldable pub lentTo : Call → List ℕ
+lentTo (freshStart clock margin) = []
+lentTo (request q) = bufferOf q
+
 -- one call, and then what the rest says of what it left
 pub record Then (su : Setup) (q : Request) (t : Lent) (x : Answer) (rest : Lent → Type 0) : Type 0 where
   pub left : Lent
@@ -128,9 +148,8 @@ Runs su [] t (x ∷ xs) u = ⊥
 Runs su (q ∷ qs) t [] u = ⊥
 Runs su (q ∷ qs) t (x ∷ xs) u = Then su q t x (λ v. Runs su qs v xs u)
 
--- a fresh start that is not refused, over any record and tables, by its own promise
+-- a fresh start that is not refused, over any record and tables
 pub record Begins (su : Setup) (clock : UnixTime) (margin : Margin) (t u : Lent) : Type 0 where
-  pub answer : Paper
-  pub starts : Starts su (t .rec) (t .store) (t .lens) (t .rows)
-      (startIn su (length (t .store)) (length (t .lens)) (length (t .rows)) clock margin) answer (u .rec) (u .store) (u .lens) (u .rows)
-  pub not-refused : answer .number ≡ 0
+  pub answer : Answer
+  pub starts : StartsOver su t answer u clock margin
+  pub not-refused : answer .paper .number ≡ 0

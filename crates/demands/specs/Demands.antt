@@ -1,14 +1,15 @@
--- The demands over lent tables: a refusal changes nothing, the promises allow exactly one result, a sequence of calls answers as the
--- definitions say, it is never damaged, and room never changes an answer.
-use Prim.Native.Nat.{_≤_, ℕ}
-use Rattle.demands.specs.Calling.{Begins, Calls, Lent, Runs}
+-- The demands over lent tables: every call answers or refuses by the table and a refusal changes nothing, the promises allow exactly one
+-- result, a sequence of calls answers as the definitions say, it is never damaged, and room never changes an answer.
+use Prim.Native.Nat.{ℕ}
+use Rattle.demands.specs.Calling.{Begins, Call, Lent, Promised, Runs, lentTo, request}
 use Rattle.room.specs.Room.{EveryNamed, Roomier, Spills, strike}
 use Rattle.rules.specs.Papers.{after}
 use Rattle.schedule.specs.Starting.{freshState}
 use Rattle.schedule.specs.State.{State, stateOf}
 use Rattle.schedule.specs.declared.Setup.{Setup}
 use Rattle.scheduler.specs.Fits.{AllOfBytes}
-use Rattle.scheduler.specs.Steps.{Answer, Request, add, count, delete, deleteById, deleteKeeping, deleteWindow, disable, enable, hasElementAt, insertStored, insertUnwrapped, insertWrapped, lenOfData, modify, read, reset, retrieve, run, setClock, tick}
+use Rattle.scheduler.specs.Laws.{AnsweredOrRefused}
+use Rattle.scheduler.specs.Steps.{Answer, Request, modify, run}
 use Rattle.store.specs.Calls.{judging, packetIn}
 use Rattle.time.specs.declared.Margin.{Margin}
 use Rattle.time.specs.declared.UnixTime.{UnixTime}
@@ -17,59 +18,30 @@ use mathlib.Core.Bool.{Bool}
 use mathlib.Core.List.{List, [], _∷_}
 use mathlib.Core.Path.{_≡_}
 
--- the buffer that a request lends: to `read`, or the log to the tick
-unfoldable pub bufferOf : Request → List ℕ
-bufferOf (add d) = []
-bufferOf (read a buf) = buf
-bufferOf (modify a ys) = []
-bufferOf (delete a) = []
-bufferOf (hasElementAt a) = []
-bufferOf (lenOfData a) = []
-bufferOf (setClock c) = []
-bufferOf enable = []
-bufferOf disable = []
-bufferOf count = []
-bufferOf (insertWrapped p) = []
-bufferOf (insertUnwrapped c p) = []
-bufferOf (insertStored c id a) = []
-bufferOf (retrieve w) = []
-bufferOf (deleteWindow w) = []
-bufferOf reset = []
-bufferOf (deleteKeeping id) = []
-bufferOf (deleteById id) = []
-bufferOf (tick limit del log) = log
+-- Demand 1, for every call of 01, the fresh start included, and anything lent, sound or not: an answer or one of refusals 1 to 20; and a
+-- refusal changes no lent byte and no record
+unfoldable pub EveryCallAnswers : Type 0
+EveryCallAnswers = (su : Setup) (c : Call) (t : Lent) (x : Answer) (u : Lent) → Promised su c t x u → AnsweredOrRefused (lentTo c) x t u
 
--- Demand 1, for every request and anything lent, sound or not: a refusal, an answer whose number is above 0, changes no lent byte and no
--- record; and no answer has a number beyond the table's
-pub record RefusedKeeps (q : Request) (t : Lent) (x : Answer) (u : Lent) : Type 0 where
-  pub lent : u ≡ t
-  pub buffer : x .buffer ≡ bufferOf q
-
-unfoldable pub RefusalChangesNothing : Type 0
-RefusalChangesNothing =
-    (su : Setup) (q : Request) (t : Lent) (x : Answer) (u : Lent) → Calls su q t x u → (x .paper .number ≡ 0 → ⊥) → RefusedKeeps q t x u
-
-unfoldable pub NumbersOfTheTable : Type 0
-NumbersOfTheTable = (su : Setup) (q : Request) (t : Lent) (x : Answer) (u : Lent) → Calls su q t x u → x .paper .number ≤ 20
-
--- The promises can be kept, whatever is lent: each request has a result that its promise allows. What is written through modify is as long as
+-- The promises can be kept, whatever is lent: each call has a result that its promise allows. What is written through modify is as long as
 -- what it lends
-pub record Result (su : Setup) (q : Request) (t : Lent) : Type 0 where
+pub record Result (su : Setup) (c : Call) (t : Lent) : Type 0 where
   pub answer : Answer
   pub left : Lent
-  pub call : Calls su q t answer left
+  pub call : Promised su c t answer left
 
-abbrev pub Whole : Setup → Request → Lent → Type 0
-Whole su q t =
-    (a : ℕ) (ys : List ℕ) → q ≡ modify a ys → after (judging (su .store) (t .store) (t .lens) (λ ps. packetIn ps a)) (length ys) length ≡ length ys
+abbrev pub Whole : Setup → Call → Lent → Type 0
+Whole su c t =
+    (a : ℕ) (ys : List ℕ) → c ≡ request (modify a ys) →
+    after (judging (su .store) (t .store) (t .lens) (λ ps. packetIn ps a)) (length ys) length ≡ length ys
 
 unfoldable pub SomeOutcome : Type 0
-SomeOutcome = (su : Setup) (q : Request) (t : Lent) → Whole su q t → Result su q t
+SomeOutcome = (su : Setup) (c : Call) (t : Lent) → Whole su c t → Result su c t
 
 -- The promises determine every answer, with the buffer, and every lent byte and the record afterwards: of one call, and of any number of calls
 unfoldable pub OneOutcome : Type 0
 OneOutcome =
-    (su : Setup) (q : Request) (t : Lent) (x y : Answer) (u v : Lent) → Calls su q t x u → Calls su q t y v → (x ≡ y) × (u ≡ v)
+    (su : Setup) (c : Call) (t : Lent) (x y : Answer) (u v : Lent) → Promised su c t x u → Promised su c t y v → (x ≡ y) × (u ≡ v)
 
 unfoldable pub RunsAgree : Type 0
 RunsAgree =
@@ -105,13 +77,14 @@ NeverDamaged =
     NoneDamaged given
 
 -- Demand 3: two fresh schedulers, each over its own tables, the second with at least the room of the first and alike in all else. The first
--- is given any requests whose addresses name slots of it; the second those that the first did not refuse as StoreFull or ScheduleFull
-unfoldable pub RoomChangesNoAnswer : Bool → Type 0
-RoomChangesNoAnswer spilling =
+-- is given any requests whose addresses name slots of it; the second those that the first did not refuse as StoreFull or ScheduleFull. By
+-- whether the smaller spills and whether the larger does: the first must not
+unfoldable pub RoomChangesNoAnswer : Bool → Bool → Type 0
+RoomChangesNoAnswer smaller larger =
     (su lu : Setup) (clock : UnixTime) (margin : Margin) (qs : List Request) (before fresh end before′ fresh′ end′ : Lent)
     (given given′ : List Answer) →
     Roomier su lu →
-    Spills spilling su lu →
+    Spills smaller larger su lu →
     EveryNamed su qs →
     AllOfBytes qs →
     Begins su clock margin before fresh →

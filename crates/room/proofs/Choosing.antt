@@ -1,51 +1,58 @@
--- What a smaller store chooses, spilling off, a larger one chooses too; and it is a slot of the smaller.
+-- What a smaller store chooses, spilling off, a larger one chooses too, whether it spills or not; and it is a slot of the smaller.
 use Prim.Native.Nat.{_<_, _≤_, suc, zero, ℕ}
 use Rattle.room.proofs.Grow.{NamedAt, Slotted, grow, shape}
+use Rattle.room.specs.FreeSlot.{MoreChangeNothing, slotTaken}
 use Rattle.store.specs.Address.{addressOf, poolOf, slotOf}
 use Rattle.store.specs.Pools.{Choice, Pool, Slot, allTaken, choose, free, into, lowest, next, pick, shift, taken, tooLarge}
 use lib.Dec.{leb}
 use lib.ListN.{length}
 use mathlib.Core.Bool.{Bool, false, true}
-use mathlib.Core.List.{List, [], _++_, _∷_}
-use mathlib.Core.Option.{Option, none, some}
+use mathlib.Core.List.{List, [], _∷_}
+use mathlib.Core.Option.{IsSome, Option, none, some}
 use mathlib.Core.Path.{_≡_, ap, refl}
 use native.Mathlib.Omega.{arith}
-
-abbrev isNone : Option ℕ → Bool
-isNone none = true
-isNone (some i) = false
 
 abbrev pub isFull : Choice → Bool
 isFull tooLarge = false
 isFull (allTaken k) = true
 isFull (into k i) = false
 
-next-none : (o : Option ℕ) → isNone (next o) ≡ false → isNone o ≡ false
-next-none none e = e
-next-none (some i) e = refl
+next-some : (o : Option ℕ) → IsSome (next o) → IsSome o
+next-some none h = h
+next-some (some i) h = tt
 
-lowest-append : (xs ys : List Slot) → isNone (lowest xs) ≡ false → lowest (xs ++ ys) ≡ lowest xs
-lowest-append [] ys h = cc
-lowest-append (free b ∷ xs) ys h = refl
-lowest-append (taken n b ∷ xs) ys h = ap next (lowest-append xs ys (next-none (lowest xs) h))
+pub more-change-nothing : MoreChangeNothing slotTaken
+unfolding MoreChangeNothing
+more-change-nothing [] more h = absurd h
+more-change-nothing (free b ∷ xs) more h = refl
+more-change-nothing (taken n b ∷ xs) more h = ap next (more-change-nothing xs more (next-some (lowest xs) h))
 
-pick-grow : (b : Bool) (o o′ : Option ℕ) (r r′ : Choice) → (isNone o ≡ false → o′ ≡ o) → (isFull r ≡ false → r′ ≡ r)
-    → isFull (pick false b o r) ≡ false → pick false b o′ r′ ≡ pick false b o r
-pick-grow false o o′ r r′ f g h = g h
-pick-grow true (some i) o′ r r′ f g h = rw (f refl)
-pick-grow true none o′ r r′ f g h = cc
+pick-grow : (spill b : Bool) (o o′ : Option ℕ) (r r′ : Choice) → (IsSome o → o′ ≡ o) → (isFull r ≡ false → r′ ≡ r)
+    → isFull (pick false b o r) ≡ false → pick spill b o′ r′ ≡ pick false b o r
+pick-grow spill false o o′ r r′ f g h = g h
+pick-grow spill true (some i) o′ r r′ f g h = rw (f tt)
+pick-grow spill true none o′ r r′ f g h = cc
 
 shift-full : (r : Choice) → isFull (shift r) ≡ false → isFull r ≡ false
 shift-full tooLarge h = refl
 shift-full (allTaken k) h = h
 shift-full (into k i) h = refl
 
-pub choose-grow : (ks : List ℕ) (ps : List Pool) (n : ℕ) → isFull (choose false ps n) ≡ false → choose false (grow ks ps) n ≡ choose false ps n
-unfolding grow choose
-choose-grow [] ps n h = refl
-choose-grow (k ∷ ks) [] n h = refl
-choose-grow (k ∷ ks) (p ∷ ps) n h =
-    pick-grow (leb n (p .size)) _ _ _ _ (lowest-append (p .slots) _) (λ e. ap shift (choose-grow ks ps n (shift-full (choose false ps n) e))) h
+-- whether the larger spills does not matter: where it would, the smaller is full
+same-pools : (spill : Bool) (ps : List Pool) (n : ℕ) → isFull (choose false ps n) ≡ false → choose spill ps n ≡ choose false ps n
+unfolding choose
+same-pools spill [] n h = refl
+same-pools spill (p ∷ ps) n h =
+    pick-grow spill (leb n (p .size)) _ _ _ _ (λ e. refl) (λ e. ap shift (same-pools spill ps n (shift-full (choose false ps n) e))) h
+
+pub choose-grow : (spill : Bool) (ks : List ℕ) (ps : List Pool) (n : ℕ) → isFull (choose false ps n) ≡ false
+    → choose spill (grow ks ps) n ≡ choose false ps n
+unfolding grow choose MoreChangeNothing
+choose-grow spill [] ps n h = same-pools spill ps n h
+choose-grow spill (k ∷ ks) [] n h = refl
+choose-grow spill (k ∷ ks) (p ∷ ps) n h =
+    pick-grow spill (leb n (p .size)) _ _ _ _ (more-change-nothing (p .slots) _)
+    (λ e. ap shift (choose-grow spill ks ps n (shift-full (choose false ps n) e))) h
 
 -- Slots of the store
 

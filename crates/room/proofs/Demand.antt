@@ -4,7 +4,7 @@ use Rattle.room.proofs.Choosing.{Narrow}
 use Rattle.room.proofs.Fresh.{few-pools, few-slots, fresh-grow, fresh-shape, moreOf, slotsOf, slotted-by}
 use Rattle.room.proofs.States.{Fit, grown}
 use Rattle.room.proofs.Steps.{AllSlotted, Good, steps}
-use Rattle.room.specs.Room.{AllNamed, EveryNamed, RoomNeverChangesAnAnswer, Spills, addresses, answersOf, strike, struck}
+use Rattle.room.specs.Room.{AllNamed, EveryNamed, RoomNeverChangesAnAnswer, addresses, answersOf, strike, struck}
 use Rattle.schedule.specs.Starting.{freshState}
 use Rattle.schedule.specs.State.{State, withPools}
 use Rattle.schedule.specs.declared.Setup.{Setup}
@@ -19,7 +19,7 @@ abbrev EverySlotted : List ℕ → List Request → Type 0
 EverySlotted ns [] = Unit {0}
 EverySlotted ns (q ∷ qs) = AllSlotted ns (addresses q) × EverySlotted ns qs
 
-module _ (su lu : Setup) (more : su .entries ≤ lu .entries) (off : Spills false su lu) (ns ks : List ℕ)
+module _ (su lu : Setup) (more : su .entries ≤ lu .entries) (off : su .store .spill ≡ false) (ns ks : List ℕ)
     (narrow : Narrow ns) (few : length ns ≤ 256) where
   -- one request: x is what the smaller made of it
   turn : (s : State) (q : Request) (x : Stepped) → Good ns ks s x (step lu q (grown ks s)) → (rest : List Request) (given : List Answer)
@@ -45,12 +45,13 @@ slotted-every : (su lu : Setup) (qs : List Request) → EveryNamed su qs → Eve
 slotted-every su lu [] h = tt
 slotted-every su lu (q ∷ qs) h = (slotted-all su lu (addresses q) (h .0), slotted-every su lu qs (h .1))
 
-pub room-never-changes-an-answer : RoomNeverChangesAnAnswer false
+-- whether the larger spills or not: no request that it would let spill is left, since the smaller refused it as StoreFull
+pub room-never-changes-an-answer : (larger : Bool) → RoomNeverChangesAnAnswer false larger
 unfolding RoomNeverChangesAnAnswer
-room-never-changes-an-answer su lu clock margin qs ok r off named =
+room-never-changes-an-answer larger su lu clock margin qs ok r off named =
     let given = answersOf su clock margin qs in
     subst (λ (ps : List Pool). run lu (strike given qs) (withPools ps (freshState su clock margin)) .answers ≡ strike given given)
     (sym (fresh-grow su lu r))
-    (runs su lu (r .more-entries) off (slotsOf su lu) (moreOf su lu) (few-slots su lu ok) (few-pools su lu ok) qs (freshState su clock margin)
+    (runs su lu (r .more-entries) (off .first) (slotsOf su lu) (moreOf su lu) (few-slots su lu ok) (few-pools su lu ok) qs (freshState su clock margin)
     (record { shaped = fresh-shape su lu; named = tt })
     (slotted-every su lu qs named))

@@ -10,7 +10,7 @@ use Rattle.room.proofs.Entries.{insert-slots}
 use Rattle.room.proofs.Grow.{Slotted, grow}
 use Rattle.room.proofs.States.{Fit, Same, grown}
 use Rattle.room.proofs.StoreCalls.{Placed, adds}
-use Rattle.room.specs.Room.{Spills, struck}
+use Rattle.room.specs.Room.{struck}
 use Rattle.rules.specs.Papers.{Outcome, done, into, refused, says}
 use Rattle.schedule.specs.State.{State, withPools}
 use Rattle.schedule.specs.declared.Setup.{Setup}
@@ -48,13 +48,13 @@ module _ (su lu : Setup) (more : su .entries ≤ lu .entries) (ns ks : List ℕ)
   stored-too t id s f (done vs ps) o′ a =
       rw (answered-too _ _ vs ps o′ a) (enters t id (getD vs 0 0) _ (withPools ps s) (record { shaped = a .left .0; named = f .named }) (a .left .1))
 
-  module _ (off : Spills false su lu) (narrow : Narrow ns) (few : length ns ≤ 256) (s : State) (fits : Fit ns s) where
+  module _ (off : su .store .spill ≡ false) (narrow : Narrow ns) (few : length ns ≤ 256) (s : State) (fits : Fit ns s) where
     command : (t : UnixTime) (tc : List ℕ) (r : Reading) → Same ns ks (activity su t tc s r) (activity lu t tc (grown ks s) r)
     unfolding activity
     command t tc (Unreadable x) = refuses _ _ _
     command t tc (Packet h) =
         by-test _ _ _ _ _ _ _ (refuses _ _ _)
-        (stored-too t _ s fits _ _ (adds ns ks (s .pools) (fits .shaped) narrow few tc _ _ (off .first) (off .second)))
+        (stored-too t _ s fits _ _ (adds ns ks (s .pools) (fits .shaped) narrow few tc _ _ off))
 
     from-stamp : (d : List ℕ) (x : Stamp) → Same ns ks (stamped su d s x) (stamped lu d (grown ks s) x)
     unfolding stamped

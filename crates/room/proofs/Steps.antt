@@ -8,7 +8,7 @@ use Rattle.room.proofs.Inserting.{stored, unwrapped, wrapped}
 use Rattle.room.proofs.States.{Fit, Same, answer-too, grown, pools-too, record-too}
 use Rattle.room.proofs.StoreCalls.{Placed, adds, deletes, has-grow, here, len-grow, packet-grow, read-grow}
 use Rattle.room.proofs.Ticking.{grown-log, ticks}
-use Rattle.room.specs.Room.{Spills, addresses, struck}
+use Rattle.room.specs.Room.{addresses, struck}
 use Rattle.rules.specs.Papers.{Outcome, after, done, into, refused, says}
 use Rattle.schedule.specs.State.{State, recordOf, withPools}
 use Rattle.schedule.specs.declared.Setup.{Setup}
@@ -79,13 +79,13 @@ module _ (ns ks : List ℕ) (s : State) (fits : Fit ns s) where
       (record { shaped = shape-edit (rewrite d) (s .pools) a ∙ fits .shaped; named = fits .named })
       (packetIn (s .pools) a))
 
-  module _ (su lu : Setup) (more : su .entries ≤ lu .entries) (off : Spills false su lu) (narrow : Narrow ns)
+  module _ (su lu : Setup) (more : su .entries ≤ lu .entries) (off : su .store .spill ≡ false) (narrow : Narrow ns)
       (few : length ns ≤ 256) where
     pub steps : (q : Request) → AllSlotted ns (addresses q) → Good ns ks s (step su q s) (step lu q (grown ks s))
     unfolding step addresses
     steps (add d) n =
         carries _ _
-        (pools-too ns ks s fits (Placed ns) (λ vs ps e. e .0) _ _ (adds ns ks (s .pools) (fits .shaped) narrow few d _ _ (off .first) (off .second)))
+        (pools-too ns ks s fits (Placed ns) (λ vs ps e. e .0) _ _ (adds ns ks (s .pools) (fits .shaped) narrow few d _ _ off))
     steps (read a buf) n = reads _ _ buf (read-grow ns ks (s .pools) (fits .shaped) a (n .0) buf)
     steps (modify a d) n = carries _ _ (modifies a d (n .0))
     steps (delete a) n =

@@ -76,6 +76,6 @@ module _ (ns ks : List ℕ) (ps : List Pool) (shaped : shape ps ≡ ns) where
         rw (f refl, editAt-grow (fill d) ks ps k i (rw shaped h))
         (answers _ _ _ _ (shape-editAt (fill d) ps k i ∙ shaped, slotted ns k i narrow few h))
 
-    pub adds : (d : List ℕ) (x y : Bool) → x ≡ false → y ≡ false → Alike (grow ks) (Placed ns) (addIn x ps d) (addIn y (grow ks ps) d)
+    pub adds : (d : List ℕ) (x y : Bool) → x ≡ false → Alike (grow ks) (Placed ns) (addIn x ps d) (addIn y (grow ks ps) d)
     unfolding addIn
-    adds d x y e f = rw (e, f) (places d _ _ (choose-grow ks ps (length d)) (rw (← shaped) (choose-in ps (length d))))
+    adds d x y e = rw e (places d _ _ (choose-grow y ks ps (length d)) (rw (← shaped) (choose-in ps (length d))))

@@ -1,3 +1,4 @@
 -- Demand 3: room never changes an answer.
 pub mod Room
+pub mod FreeSlot
 pub mod Spilling

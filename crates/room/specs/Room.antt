@@ -23,10 +23,10 @@ pub record Roomier (su lu : Setup) : Type 0 where
   pub more-slots : (k : ℕ) → k < su .store .pools → slotsAt (su .store) k ≤ slotsAt (lu .store) k
   pub more-entries : su .entries ≤ lu .entries
 
--- spilling is on in both, or off in both
-pub record Spills (b : Bool) (su lu : Setup) : Type 0 where
+-- whether the first spills, and whether the second does
+pub record Spills (b c : Bool) (su lu : Setup) : Type 0 where
   pub first : su .store .spill ≡ b
-  pub second : lu .store .spill ≡ b
+  pub second : lu .store .spill ≡ c
 
 -- the addresses in a request. An insertion by bytes, like an addition, has none: it answers the one that it chose
 unfoldable pub addresses : Request → List ℕ
@@ -76,14 +76,14 @@ strike (a ∷ given) (x ∷ xs) = cond (struck (a .paper)) (strike given xs) (x 
 abbrev pub answersOf : Setup → UnixTime → Margin → List Request → List Answer
 answersOf su clock margin qs = run su qs (freshState su clock margin) .answers
 
--- the demand, for spilling off or on: off is what is asked for. Neither fresh start is refused; of that, it needs no more than that the
--- first setup is none of refusal 1
-unfoldable pub RoomNeverChangesAnAnswer : Bool → Type 0
-RoomNeverChangesAnAnswer spilling =
+-- the demand, by whether the smaller spills and whether the larger does: off in both is what is asked for, off in the smaller is enough.
+-- Neither fresh start is refused; of that, it needs no more than that the first setup is none of refusal 1
+unfoldable pub RoomNeverChangesAnAnswer : Bool → Bool → Type 0
+RoomNeverChangesAnAnswer smaller larger =
     (su lu : Setup) (clock : UnixTime) (margin : Margin) (qs : List Request) →
     setupOk su ≡ true →
     Roomier su lu →
-    Spills spilling su lu →
+    Spills smaller larger su lu →
     EveryNamed su qs →
     let given : List Answer = answersOf su clock margin qs in
     answersOf lu clock margin (strike given qs) ≡ strike given given

@@ -2,23 +2,23 @@
 use Prim.Native.Nat.{ℕ}
 use lib.IntN.{pos}
 use lib.ListN.{getD, replicate}
-use mathlib.Core.Bool.{true}
+use mathlib.Core.Bool.{Bool}
 use mathlib.Core.List.{List, [], _∷_}
 use Rattle.room.specs.Room.{answersOf}
 use Rattle.rules.specs.Papers.{Paper, no}
 use Rattle.schedule.specs.declared.Setup.{Setup}
 use Rattle.scheduler.specs.Steps.{Answer, Request, add, delete}
 
--- so many slots in the first subpool
-abbrev pub slots : ℕ → Setup
-slots n =
+-- whether it spills, and so many slots in the first subpool
+abbrev pub slots : Bool → ℕ → Setup
+slots spilling n =
     record {
       store =
           record {
             pools = 3;
             sizes = 16 ∷ 32 ∷ 64 ∷ 0 ∷ 0 ∷ 0 ∷ 0 ∷ 0 ∷ [];
             slots = n ∷ 1 ∷ 1 ∷ 0 ∷ 0 ∷ 0 ∷ 0 ∷ 0 ∷ [];
-            spill = true;
+            spill = spilling;
           };
       entries = 1;
     }

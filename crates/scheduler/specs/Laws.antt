@@ -1,13 +1,25 @@
--- What the laws say of record and lent lists: that they are as they were, and that a call did what the step of its request says.
-use Prim.Native.Nat.{ℕ}
+-- What the laws say: demand 1, of steps; and of record and lent lists, that they are as they were, and that a call did what the step of its
+-- request says.
+use Prim.Native.Nat.{_≤_, ℕ}
 use Rattle.record.specs.declared.Record.{Record}
 use Rattle.rules.specs.Papers.{Paper}
 use Rattle.schedule.specs.Judge.{Sound}
-use Rattle.schedule.specs.State.{stateOf}
+use Rattle.schedule.specs.State.{State, stateOf}
 use Rattle.schedule.specs.declared.Setup.{Setup}
-use Rattle.scheduler.specs.Steps.{Request, step}
+use Rattle.scheduler.specs.Steps.{Answer, Request, bufferOf, step}
 use mathlib.Core.List.{List}
 use mathlib.Core.Path.{_≡_}
+
+-- Demand 1, of an answer to a call that was lent a buffer and found what was there: its number is 0 or one of the table's, 1 to 20; and where
+-- it is a refusal, what is left is what was there, and the buffer is as it was lent
+pub record AnsweredOrRefused {A : Type 0} (lent : List ℕ) (x : Answer) (there left : A) : Type 0 where
+  pub in-table : x .paper .number ≤ 20
+  pub kept : (x .paper .number ≡ 0 → ⊥) → (left ≡ there) × (x .buffer ≡ lent)
+
+-- Demand 1 over steps: every setup, request and state
+unfoldable pub EveryStepAnswers : Type 0
+EveryStepAnswers =
+    (su : Setup) (q : Request) (s : State) → AnsweredOrRefused (bufferOf q) (step su q s .answer) s (step su q s .state)
 
 -- record, store, length table and rows, the second of each pair as the first
 pub record Same (r r′ : Record) (st st′ le le′ ro ro′ : List ℕ) : Type 0 where

@@ -37,6 +37,28 @@ pub data Request : Type 0 where
   -- the tick: the limit on records, whether packets are deleted, and the log that is lent
   tick : ℕ → Bool → List ℕ → Request
 
+-- the buffer that a request lends: to `read`, or the log to the tick
+unfoldable pub bufferOf : Request → List ℕ
+bufferOf (add d) = []
+bufferOf (read a buf) = buf
+bufferOf (modify a d) = []
+bufferOf (delete a) = []
+bufferOf (hasElementAt a) = []
+bufferOf (lenOfData a) = []
+bufferOf (setClock t) = []
+bufferOf enable = []
+bufferOf disable = []
+bufferOf count = []
+bufferOf (insertWrapped p) = []
+bufferOf (insertUnwrapped t p) = []
+bufferOf (insertStored t id a) = []
+bufferOf (retrieve w) = []
+bufferOf (deleteWindow w) = []
+bufferOf reset = []
+bufferOf (deleteKeeping id) = []
+bufferOf (deleteById id) = []
+bufferOf (tick limit del log) = log
+
 -- what a request is answered, with the lent buffer as it is afterwards
 pub record Answer : Type 0 where
   pub paper : Paper

@@ -1,4 +1,4 @@
--- The numbers that each call gives of its own, beside 1 to 3 that every call judges: from 4 to 20.
+-- The numbers that each call gives of its own, beside 1 to 3 that are judged first: from 4 to 20.
 use Prim.Native.Nat.{_≤_, ℕ}
 use Rattle.deletions.specs.Deleting.{clearIn, deleteByIdIn, deleteKeepingIn, deleteWindowIn, freed, resetIn, takeIn}
 use Rattle.deletions.specs.Windowing.{retrieveIn, windowed}
@@ -7,7 +7,10 @@ use Rattle.insertions.specs.Inserting.{activity, enter, entered, insertStoredIn
 use Rattle.packet.specs.Packet.{readOf, userDataOf}
 use Rattle.packet.specs.declared.Reading.the-variants.{Packet, Unreadable}
 use Rattle.packet.specs.declared.Reading.{Reading}
-use Rattle.rules.specs.Papers.{Outcome, Paper, done, judgedBy, no, refused, says}
+use Rattle.record.specs.Record.{clockIn, markIn, timesInRange}
+use Rattle.record.specs.declared.Record.{Record}
+use Rattle.rules.proofs.Order.{into-says}
+use Rattle.rules.specs.Papers.{Outcome, Paper, done, into, judgedBy, no, refused, says}
 use Rattle.rules.specs.Tests.{unless}
 use Rattle.schedule.specs.Counting.{countIn}
 use Rattle.schedule.specs.State.{State, withPools}
@@ -16,14 +19,14 @@ use Rattle.stamp.specs.Stamp.{stampOf}
 use Rattle.stamp.specs.declared.Stamp.the-variants.{At, Refused}
 use Rattle.stamp.specs.declared.Stamp.{Stamp}
 use Rattle.store.specs.Calls.{addIn, deleteIn, hasIn, ifHeld, ifNamed, lenIn, packetIn, place, readIn}
-use Rattle.store.specs.Pools.{Choice, Found, Pool, allTaken, choose, find, held, into, noPool, noSlot, tooLarge, vacant}
+use Rattle.store.specs.Pools.{Choice, Found, Pool, allTaken, choose, find, held, into as inSlot, noPool, noSlot, tooLarge, vacant}
 use Rattle.table.specs.declared.TimeWindow.{TimeWindow}
-use Rattle.tick.specs.Tick.{Logged, handedOut, tickIn}
+use Rattle.tick.specs.Tick.{handedOut, tickIn}
 use Rattle.time.specs.declared.UnixTime.{UnixTime}
 use lib.ListN.{drop, length}
 use mathlib.Core.Bool.{Bool, false, true}
-use mathlib.Core.List.{List, [], _∷_}
-use mathlib.Core.Path.{_≡_, refl}
+use mathlib.Core.List.{List, []}
+use mathlib.Core.Path.{_≡_}
 use native.Mathlib.Omega.{arith}
 
 abbrev pub Own : {A : Type 0} → Outcome A → Type 0
@@ -43,10 +46,21 @@ judged-most false b d o h = omega arith
 judged-most true false d o h = omega arith
 judged-most true true false o h = omega arith
 
-pub own-none : {A : Type 0} (o : Outcome A) → Own o → (n : ℕ) → 1 ≤ n → n ≤ 3 → says o .number ≡ n → ⊥
+-- a number of the table, and none of 1 to 3 where what is judged first was fine
+pub record Numbered (fine : Bool) (p : Paper) : Type 0 where
+  pub most : p .number ≤ 20
+  pub undamaged : fine ≡ true → (n : ℕ) → 1 ≤ n → n ≤ 3 → p .number ≡ n → ⊥
+
+own-none : {A : Type 0} (o : Outcome A) → Own o → (n : ℕ) → 1 ≤ n → n ≤ 3 → says o .number ≡ n → ⊥
 unfolding says
 own-none (refused p) h n l m e = omega (arith, h .0)
 own-none (done vs x) h n l m e = omega arith
+
+pub own-numbered : {A : Type 0} (fine : Bool) (o : Outcome A) → Own o → Numbered fine (says o)
+own-numbered fine o h = record { most = own-most o h; undamaged = λ e. own-none o h }
+
+pub into-numbered : {A B : Type 0} (fine : Bool) (f : A → B) (o : Outcome A) → Numbered fine (says o) → Numbered fine (says (into f o))
+into-numbered fine f o h = rw (into-says f o) h
 
 pub own-unless : {A : Type 0} (b : Bool) (p : Paper) (o : Outcome A) → 4 ≤ p .number → p .number ≤ 20 → Own o → Own (unless b (refused p) o)
 unfolding unless
@@ -75,7 +89,7 @@ own-place : (ps : List Pool) (d : List ℕ) (x : Choice) → Own (place ps d x)
 unfolding place
 own-place ps d tooLarge = (omega arith, omega arith)
 own-place ps d (allTaken k) = (omega arith, omega arith)
-own-place ps d (into k i) = tt
+own-place ps d (inSlot k i) = tt
 
 pub own-add : (spill : Bool) (ps : List Pool) (d : List ℕ) → Own (addIn spill ps d)
 unfolding addIn
@@ -188,3 +202,21 @@ pub own-tick : (limit : ℕ) (del : Bool) (log : List ℕ) (s : State) → Own (
 unfolding tickIn handedOut
 own-tick limit del log s =
     own-unless _ _ _ (omega arith) (omega arith) (own-unless _ _ _ (omega arith) (omega arith) tt)
+
+-- ---- the record's calls, which judge 3 by its clock and margin
+
+times-numbered : (fine : Bool) (o : Outcome Record) → Own o → Numbered fine (says (unless fine (refused (no 3 [])) o))
+unfolding unless says
+times-numbered true o h = own-numbered true o h
+times-numbered false o h = record { most = omega arith; undamaged = λ e. clash e }
+  where
+    clash : {X : Type 0} → false ≡ true → X
+    clash e = let z : _≡_ {A = ℕ} 0 1 = cc in absurd (omega arith)
+
+pub clock-numbered : (t : UnixTime) (r : Record) → Numbered (timesInRange r) (says (clockIn t r))
+unfolding clockIn
+clock-numbered t r = times-numbered (timesInRange r) _ (own-unless _ _ _ (omega arith) (omega arith) tt)
+
+pub mark-numbered : (on : Bool) (r : Record) → Numbered (timesInRange r) (says (markIn on r))
+unfolding markIn
+mark-numbered on r = times-numbered (timesInRange r) _ tt
