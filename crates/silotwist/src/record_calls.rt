@@ -1,7 +1,7 @@
 // The calls that see the record alone.
-use crate::answers;
-use crate::reading;
-use crate::writing;
+use face_words::answers;
+use face_words::reading;
+use face_words::writing;
 use time::UnixTime;
 ghost use mathlib.Core.Path.{_≡_};
 ghost use mathlib.Core.Bool.{false, true};

@@ -1,7 +1,7 @@
 // The scheduler's calls.
-use crate::answers;
-use crate::reading;
-use crate::writing;
+use face_words::answers;
+use face_words::reading;
+use face_words::writing;
 use time::Margin;
 ghost use mathlib.Core.Path.{_≡_};
 ghost use lib.ListN.{length};
@@ -11,7 +11,7 @@ ghost use Rattle.insertions.specs.Inserting.{insertStoredIn, insertUnwrappedIn,
 ghost use Rattle.schedule.specs.Counting.{countIn};
 ghost use Rattle.schedule.specs.Starting.{startIn};
 ghost use Rattle.silotwist.specs.Face.{Answers};
-ghost use Rattle.silotwist.specs.Reading.{word};
+ghost use Rattle.face_words.specs.Reading.{windowFrom, word};
 ghost use Rattle.silotwist.specs.ScheduleFace.{
   ScheduleFaces,
   allWritten,
@@ -19,7 +19,6 @@ ghost use Rattle.silotwist.specs.ScheduleFace.{
   judgedCall,
   resetWritten,
   scheduleCall,
-  windowFrom,
 };
 
 #[no_mangle]

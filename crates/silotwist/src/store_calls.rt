@@ -1,7 +1,7 @@
 // The store's calls.
-use crate::Words;
-use crate::answers;
-use crate::reading;
+use face_words::Words;
+use face_words::answers;
+use face_words::reading;
 use store::Setup;
 use store::Verdict;
 use store::Whereabouts;
@@ -9,7 +9,7 @@ ghost use mathlib.Core.Path.{_≡_};
 ghost use Rattle.store.specs.Calls.{addIn, deleteIn, hasIn, judging, lenIn, packetIn, readIn};
 ghost use Rattle.silotwist.specs.Face.{Answers};
 ghost use Rattle.rules.specs.Papers.{says};
-ghost use Rattle.silotwist.specs.Inside.{wordsOf};
+ghost use Rattle.face_words.specs.Inside.{wordsOf};
 ghost use Rattle.silotwist.specs.StoreFace.{BufferFaces, StoreFaces, partIn, storeCall};
 
 #[no_mangle]

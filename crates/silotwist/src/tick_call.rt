@@ -1,8 +1,8 @@
 // The release tick.
-use crate::answers;
-use crate::reading;
-use crate::writing;
-ghost use Rattle.silotwist.specs.Reading.{word};
+use face_words::answers;
+use face_words::reading;
+use face_words::writing;
+ghost use Rattle.face_words.specs.Reading.{word};
 ghost use Rattle.silotwist.specs.ScheduleFace.{countWritten, judgedCall};
 ghost use Rattle.silotwist.specs.TickFace.{TickFaces};
 ghost use Rattle.tick.specs.Tick.{tickIn};

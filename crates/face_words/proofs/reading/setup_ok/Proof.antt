@@ -1,0 +1,34 @@
+-- `face_words::reading::setup_ok` meets its contract.
+-- Assumes nothing.
+use mathlib.Core.Path.{_∙_, sym}
+use borrow.Author.Tests.{le-leb, lt-leb, not-false, not-true}
+use Rattle.rules.proofs.All.{and-true}
+use Rattle.rules.specs.Tests.{allOf}
+use Rattle.schedule.specs.Judge.{setupOk}
+use borrow.Author.Needs.{needs}
+use Rattle.face_words.proofs.reading.setup_ok.Statement.{statement}
+use Rattle.face_words.proofs.reading.setup_ok.Tie as tie
+
+returns : tie.Need-returns
+unfolding setupOk allOf
+returns c = let p = c .before .setup-ok in simp (sym (p .ensures) ∙ not-true (p .result) (c .if1 .taken))
+
+returns-2 : tie.Need-returns-2
+unfolding setupOk allOf
+returns-2 c = let e = c .before .before in let p = e .before .setup-ok in simp (
+  sym (p .ensures) ∙ not-false (p .result)
+      (e .if1 .left),
+  lt-leb _ _ (c .if2 .taken),
+)
+
+returns-3 : tie.Need-returns-3
+unfolding setupOk allOf
+returns-3 c = let e = c .before .before .before in let p = e .before .setup-ok in simp (
+  sym (p .ensures) ∙ not-false (p .result)
+      (e .if1 .left),
+  le-leb _ _ (c .before .if2 .left),
+  and-true,
+)
+
+pub setup-ok-spec : {M : Type 1} → statement M
+setup-ok-spec = tie.close (tie.spec (λ c κs. search needs) returns returns-2 returns-3)
