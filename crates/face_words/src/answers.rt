@@ -1,4 +1,4 @@
-// Answers and refusals in words: document 01's number and values, and how they are put into the lent answer.
+// Answers and refusals in words: document 01's number and values.
 use crate::Words;
 use record::Done;
 use record::ScheduleRefusal;
@@ -7,38 +7,15 @@ use store::StoreRefusal;
 use time::Margin;
 use time::UnixTime;
 ghost use mathlib.Core.Path.{_≡_};
-ghost use mathlib.Core.List.{[], _++_, _∷_};
-ghost use Prim.Native.Nat.{_≤_};
-ghost use lib.ListN.{drop, length};
+ghost use mathlib.Core.List.{[], _∷_};
 ghost use Rattle.deletions.specs.Answers.{clearedPaper, freedPaper, lastPaper, retrievedPaper, takenPaper};
 ghost use Rattle.insertions.specs.Answers.{insertedPaper};
 ghost use Rattle.record.specs.Refusals.{donePaper, marginWords, paper, timeWords, wordOf};
 ghost use Rattle.rules.specs.Papers.{no};
 ghost use Rattle.schedule.specs.Answers.{countedPaper};
-ghost use Rattle.face_words.specs.Inside.{carrying, eight, wordsOf};
+ghost use Rattle.face_words.specs.Inside.{carrying, wordsOf};
 ghost use Rattle.store.specs.Refusals.{addedPaper, badPaper, deletedPaper, lengthPaper, paper as storePaper, presencePaper};
 ghost use Rattle.tick.specs.Promise.{tickPaper};
-
-// The first 8 words of the answer; those behind them stay.
-pub fn put(answer: &mut [u64], words: Words) -> u32
-    requires { ⌜ 8 ≤ length (now answer) ⌝ }
-    ensures { λ r. ⌜ (r ≡ words .number) × (now (answer .exit) ≡ eight (words .values) ++ drop 8 (now (answer .entry))) ⌝ }
-{
-    let v = words.values;
-    copy(answer, &v);
-    words.number
-}
-
-fn copy(answer: &mut [u64], words: &[u64; 8])
-    requires { ⌜ 8 ≤ length (now answer) ⌝ }
-    ensures { λ r. ⌜ now (answer .exit) ≡ eight (now (words .entry)) ++ drop 8 (now (answer .entry)) ⌝ }
-{
-    let mut i: usize = 0;
-    while i < 8 {
-        answer[i] = words[i];
-        i += 1;
-    }
-}
 
 pub fn none(number: u32) -> Words
     ensures { λ r. ⌜ r ≡ wordsOf (no number []) ⌝ }

@@ -9,11 +9,12 @@ use time::UnixTime;
 ghost use mathlib.Core.Path.{_≡_};
 ghost use mathlib.Core.Bool.{false, true};
 ghost use Prim.Native.Nat.{_<_};
-ghost use Rattle.schedule.specs.Judge.{setupOk};
 ghost use Rattle.store.specs.Judge.{setupOk as storeSetupOk};
 ghost use Rattle.face_words.specs.Inside.{ReadsSetup, ReadsStore, Stands, clipped, narrow, shortPaper, wordsOf};
-ghost use Rattle.face_words.specs.Reading.{column, recordFrom, signed as signedWord, switched, word as wordAt};
-ghost use Rattle.face_words.specs.Reading.{windowFrom};
+ghost use Rattle.face_words.specs.Reading.{column, recordFrom, signed as signedWord, switched, windowFrom, word as wordAt};
+
+// The least number that no field of the store's setup holds.
+const TOO_WIDE: u64 = 65536;
 
 // Word i; 0 behind the last.
 pub fn word(words: &[u64], i: usize) -> u64
@@ -31,7 +32,7 @@ fn is_narrow(words: &[u64]) -> bool
     let mut i: usize = 0;
     while i < 16 {
         let w = word(words, 3 + i);
-        if w >= 65536 {
+        if w >= TOO_WIDE {
             return false;
         }
         i += 1;
@@ -142,25 +143,11 @@ pub fn setup(words: &[u64]) -> Setup
     }
 }
 
-fn setup_ok(setup: Setup) -> bool
-    ensures { λ r. ⌜ r ≡ setupOk setup ⌝ }
-{
-    let s = setup.store;
-    let ok = store::setup_ok(s);
-    if !ok {
-        return false;
-    }
-    if setup.entries < 1 {
-        return false;
-    }
-    setup.entries <= 4096
-}
-
 // The refusal of a record with too few words: 1 where the setup is bad, and else 2.
 pub fn short_record(setup: Setup) -> Words
     ensures { λ r. ⌜ r ≡ wordsOf (shortPaper setup) ⌝ }
 {
-    let ok = setup_ok(setup);
+    let ok = schedule::setup_ok(setup);
     if ok {
         return answers::none(2);
     }

@@ -1,4 +1,4 @@
--- `silotwist::schedule_calls::silotwist_delete_window` meets its contract.
+-- `silotwist::delete_calls::silotwist_delete_window` meets its contract.
 -- Assumes nothing.
 use Rattle.deletions.specs.Deleting.{deleteWindowIn}
 use Rattle.face_words.specs.Reading.{windowFrom}
@@ -7,8 +7,8 @@ use Rattle.silotwist.proofs.ScheduleCalls.{changes-at, changes-no-answe
 use Rattle.face_words.proofs.Signed.{held-time}
 use mathlib.Core.Path.{_∙_, ap₂}
 use borrow.Author.Needs.{needs}
-use Rattle.silotwist.proofs.schedule_calls.silotwist_delete_window.Statement.{statement}
-use Rattle.silotwist.proofs.schedule_calls.silotwist_delete_window.Tie as tie
+use Rattle.silotwist.proofs.delete_calls.silotwist_delete_window.Statement.{statement}
+use Rattle.silotwist.proofs.delete_calls.silotwist_delete_window.Tie as tie
 
 returns : tie.Need-returns
 returns c =

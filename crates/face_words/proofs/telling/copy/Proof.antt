@@ -1,4 +1,4 @@
--- `face_words::answers::copy` meets its contract.
+-- `face_words::telling::copy` meets its contract.
 -- Assumes nothing.
 use Prim.Native.Nat.{_-_, _≤_, ℕ}
 use Rattle.face_words.proofs.Eight.{eight-end, eight-more}
@@ -8,8 +8,8 @@ use mathlib.Core.List.{List, _++_}
 use mathlib.Core.Path.{_∙_, _≡_, ap}
 use native.Mathlib.Omega.{arith}
 use borrow.Author.Needs.{needs}
-use Rattle.face_words.proofs.answers.copy.Statement.{statement}
-use Rattle.face_words.proofs.answers.copy.Tie as tie
+use Rattle.face_words.proofs.telling.copy.Statement.{statement}
+use Rattle.face_words.proofs.telling.copy.Tie as tie
 
 abbrev Inv-loop : tie.InvT-loop
 Inv-loop answer₀ words i₀ answer i = (i ≤ 8) × (length answer ≡ length answer₀) × (answer ≡ take i (eight words) ++ drop i answer₀)
