@@ -19,6 +19,8 @@ ghost use Rattle.schedule.specs.State.{withCount};
 mod start;
 mod tests;
 
+pub use tests::setup_ok;
+
 // The store's setup, and the number of entries.
 pub struct Setup {
     pub store: store::Setup,

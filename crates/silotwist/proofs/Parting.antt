@@ -14,10 +14,10 @@ use Rattle.store.specs.declared.Span.{Span}
 use Rattle.store.specs.declared.StoreRefusal.{StoreRefusal}
 use Rattle.store.specs.declared.Whereabouts.{Whereabouts}
 use Rattle.store.specs.declared.Whereabouts.the-variants as W
-use Rattle.silotwist.proofs.Told.{two-is}
-use Rattle.silotwist.specs.Inside.{wordsOf}
+use Rattle.face_words.proofs.Told.{two-is}
+use Rattle.face_words.specs.Inside.{wordsOf}
 use Rattle.silotwist.specs.StoreFace.{partIn}
-use Rattle.silotwist.specs.declared.Words.{Words}
+use Rattle.face_words.specs.declared.Words.{Words}
 use lib.ListN.{take}
 use mathlib.Core.List.{List, [], _∷_}
 use mathlib.Core.Path.{_∙_, _≡_, ap, refl, sym}

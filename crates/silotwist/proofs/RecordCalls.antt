@@ -11,10 +11,10 @@ use Rattle.time.specs.Time.{inRange}
 use Rattle.time.specs.declared.UnixTime.{UnixTime}
 use Rattle.silotwist.proofs.Answering.{answers, answers-short, roomy, short}
 use Rattle.silotwist.specs.Face.{Answers, answering}
-use Rattle.silotwist.specs.Inside.{Stands, eight, wordsOf, writtenIf}
-use Rattle.silotwist.specs.Reading.{recordFrom}
+use Rattle.face_words.specs.Inside.{Stands, eight, wordsOf, writtenIf}
+use Rattle.face_words.specs.Reading.{recordFrom}
 use Rattle.silotwist.specs.RecordFace.{RecordFaces, clockWritten, longEnough, markWritten, recordCall}
-use Rattle.silotwist.specs.declared.Words.{Words}
+use Rattle.face_words.specs.declared.Words.{Words}
 use borrow.Author.Tests.{le-leb, lt-leb}
 use lib.Dec.{eqb}
 use lib.ListN.{drop, length}

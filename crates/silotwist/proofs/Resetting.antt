@@ -18,11 +18,11 @@ use Rattle.time.specs.declared.Margin.{Margin}
 use Rattle.time.specs.declared.UnixTime.{UnixTime}
 use Rattle.silotwist.proofs.ScheduleCalls.{carries, changes-no-answer, changes-short, stands-count}
 use Rattle.silotwist.proofs.ScheduleCalls.{faces-done, faces-no-answer, faces-short, worded-is}
-use Rattle.silotwist.proofs.Written.{set-same}
-use Rattle.silotwist.specs.Inside.{ReadsSetup, Stands, eight, shortPaper, wordsOf, writtenIf}
-use Rattle.silotwist.specs.Reading.{recordFrom, word}
+use Rattle.face_words.proofs.Written.{set-same}
+use Rattle.face_words.specs.Inside.{ReadsSetup, Stands, eight, shortPaper, wordsOf, writtenIf}
+use Rattle.face_words.specs.Reading.{recordFrom, word}
 use Rattle.silotwist.specs.ScheduleFace.{ScheduleFaces, allWritten, judgedCall, resetWritten, scheduleCall}
-use Rattle.silotwist.specs.declared.Words.{Words}
+use Rattle.face_words.specs.declared.Words.{Words}
 use lib.ListN.{drop, length, set}
 use mathlib.Core.Bool.{Bool, _&&_, false, true}
 use mathlib.Core.List.{List, [], _++_, _∷_}

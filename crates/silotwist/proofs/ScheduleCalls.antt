@@ -15,13 +15,13 @@ use Rattle.store.specs.View.{lensWith, storeWith}
 use Rattle.table.specs.Entries.{relaid, unpack}
 use Rattle.table.specs.Order.{ordered}
 use Rattle.silotwist.proofs.Answering.{answers, answers-short, roomy, short}
-use Rattle.silotwist.proofs.Written.{set-same}
+use Rattle.face_words.proofs.Written.{set-same}
 use Rattle.silotwist.specs.Face.{Answers}
-use Rattle.silotwist.specs.Inside.{ReadsSetup, Stands, eight, fine, shortPaper, wordsOf}
-use Rattle.silotwist.specs.Reading.{recordFrom, setupFrom, storeSetup, wellCounted, word}
+use Rattle.face_words.specs.Inside.{ReadsSetup, Stands, eight, fine, shortPaper, wordsOf}
+use Rattle.face_words.specs.Reading.{recordFrom, setupFrom, storeSetup, wellCounted, word}
 use Rattle.silotwist.specs.RecordFace.{longEnough}
 use Rattle.silotwist.specs.ScheduleFace.{ScheduleFaces, countWritten, judgedCall, scheduleCall}
-use Rattle.silotwist.specs.declared.Words.{Words}
+use Rattle.face_words.specs.declared.Words.{Words}
 use borrow.Author.Tests.{le-leb, lt-leb}
 use lib.Dec.{leb}
 use lib.ListN.{drop, length, set}

@@ -11,10 +11,10 @@ use Rattle.store.specs.Promise.{Reads, Writes}
 use Rattle.store.specs.declared.Setup.{Setup}
 use Rattle.silotwist.proofs.Answering.{answers, answers-short, roomy, short}
 use Rattle.silotwist.specs.Face.{Answers, answering}
-use Rattle.silotwist.specs.Inside.{ReadsStore, eight, fine, wordsOf}
-use Rattle.silotwist.specs.Reading.{storeSetup, wellCounted}
+use Rattle.face_words.specs.Inside.{ReadsStore, eight, fine, wordsOf}
+use Rattle.face_words.specs.Reading.{storeSetup, wellCounted}
 use Rattle.silotwist.specs.StoreFace.{BufferFaces, StoreFaces, storeCall}
-use Rattle.silotwist.specs.declared.Words.{Words}
+use Rattle.face_words.specs.declared.Words.{Words}
 use lib.ListN.{drop, length}
 use mathlib.Core.Bool.{Bool, _&&_, false, true}
 use mathlib.Core.List.{List, [], _++_}

@@ -12,11 +12,11 @@ use Rattle.tick.specs.Tick.{Logged}
 use Rattle.silotwist.proofs.Answering.{roomy, short}
 use Rattle.silotwist.proofs.ScheduleCalls.{changes, changes-no-answer, changes-short, judged-is, judgedOf, short-is, worded}
 use Rattle.silotwist.specs.Face.{answering}
-use Rattle.silotwist.specs.Inside.{ReadsSetup, Stands, eight, shortPaper, wordsOf}
-use Rattle.silotwist.specs.Reading.{recordFrom, word}
+use Rattle.face_words.specs.Inside.{ReadsSetup, Stands, eight, shortPaper, wordsOf}
+use Rattle.face_words.specs.Reading.{recordFrom, word}
 use Rattle.silotwist.specs.ScheduleFace.{countWritten, judgedCall, scheduleCall}
 use Rattle.silotwist.specs.TickFace.{TickFaces}
-use Rattle.silotwist.specs.declared.Words.{Words}
+use Rattle.face_words.specs.declared.Words.{Words}
 use lib.ListN.{drop, length, set}
 use mathlib.Core.Bool.{Bool, false, true}
 use mathlib.Core.List.{List, _++_}

@@ -1,19 +1,13 @@
 -- What every call of the C face has in common: the number that it returns, and the first 8 words of the lent answer.
 use Prim.Native.Nat.{ℕ}
+use Rattle.face_words.specs.Padding.{answerWords, padded}
 use Rattle.rules.specs.Papers.{Outcome, Paper, no, refused, says}
 use Rattle.rules.specs.Tests.{unless}
 use lib.Dec.{leb}
-use lib.ListN.{drop, length, replicate, take}
+use lib.ListN.{drop, length}
 use mathlib.Core.Bool.{Bool}
 use mathlib.Core.List.{List, [], _++_}
 use mathlib.Core.Path.{_≡_}
-
-abbrev pub answerWords : ℕ
-answerWords = 8
-
--- values in 8 words, unused ones 0
-unfoldable pub padded : List ℕ → List ℕ
-padded vs = take answerWords (vs ++ replicate answerWords 0)
 
 abbrev pub roomy : List ℕ → Bool
 roomy an = leb answerWords (length an)

@@ -1,8 +1,6 @@
--- The C face (include/silotwist.h): what a reader must believe. Read it in this order, beside the header.
-pub mod Reading
+-- The C face (include/silotwist.h): what a reader must believe. Read it in this order, beside the header, after face_words' Reading and Padding.
 pub mod Face
 pub mod StoreFace
 pub mod RecordFace
 pub mod ScheduleFace
 pub mod TickFace
-pub mod Inside

@@ -1,7 +1,5 @@
 -- The scheduler's calls over words: what each comes to, and what it promises.
 use Prim.Native.Nat.{ℕ}
-use Rattle.deletions.specs.declared.Window.{Window}
-use Rattle.deletions.specs.declared.Window.the-variants.{All, From, FromTo, To}
 use Rattle.record.specs.Refusals.{marginWords, timeWords}
 use Rattle.record.specs.declared.Record.{Record}
 use Rattle.rules.specs.Papers.{Outcome, after, no, refused}
@@ -12,13 +10,11 @@ use Rattle.schedule.specs.declared.Setup.{Setup}
 use Rattle.store.specs.Refusals.{bit}
 use Rattle.store.specs.View.{lensWith, storeWith}
 use Rattle.table.specs.Entries.{relaid}
-use Rattle.time.specs.declared.UnixTime.{UnixTime}
 use lib.ListN.{drop, length, set}
-use mathlib.Core.Bool.{Bool, false, true}
 use mathlib.Core.List.{List, [], _++_, _∷_}
 use mathlib.Core.Path.{_≡_}
 use Rattle.silotwist.specs.Face.{Answers, answering}
-use Rattle.silotwist.specs.Reading.{recordFrom, recordWords, setupFrom, storeSetup, wellCounted}
+use Rattle.face_words.specs.Reading.{recordFrom, recordWords, setupFrom, storeSetup, wellCounted}
 use Rattle.silotwist.specs.RecordFace.{longEnough}
 
 -- the answer's room; all of 1, the number of setup words first; then all of 2, the record's words first; and then as the call judges
@@ -42,13 +38,6 @@ resetWritten rw s = set (set rw 0 (length (s .entries))) 5 0
 
 abbrev pub allWritten : List ℕ → State → List ℕ
 allWritten rw s = length (s .entries) ∷ timeWords (s .clock) (marginWords (s .margin) (bit (s .enabled) ∷ drop recordWords rw))
-
--- a window has a start if has-from and an end if has-to; an end that it has not is not looked at
-unfoldable pub windowFrom : Bool → UnixTime → Bool → UnixTime → Window
-windowFrom true f true t = FromTo f t
-windowFrom true f false t = From f
-windowFrom false f true t = To t
-windowFrom false f false t = All
 
 -- what a call that writes promises; k is how many rows the entries had before
 pub record ScheduleFaces (sw : List ℕ) (k : ℕ) (o : Outcome State) (written : State → List ℕ) (rw st le ro an : List ℕ) (n : ℕ)

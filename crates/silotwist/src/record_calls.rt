@@ -1,7 +1,8 @@
 // The calls that see the record alone.
-use crate::answers;
-use crate::reading;
-use crate::writing;
+use face_words::answers;
+use face_words::reading;
+use face_words::telling;
+use face_words::writing;
 use time::UnixTime;
 ghost use mathlib.Core.Path.{_≡_};
 ghost use mathlib.Core.Bool.{false, true};
@@ -24,7 +25,7 @@ pub extern "C" fn silotwist_set_clock(
         return 2;
     }
     if record.len() < 6 {
-        return answers::put(answer, answers::none(2));
+        return telling::put(answer, answers::none(2));
     }
     let t = UnixTime {
         secs: secs,
@@ -35,7 +36,7 @@ pub extern "C" fn silotwist_set_clock(
     let a = c.answer;
     let w = answers::done(a);
     writing::clock(record, w.number, t);
-    answers::put(answer, w)
+    telling::put(answer, w)
 }
 
 fn mark(record: &mut [u64], on: bool, answer: &mut [u64]) -> u32
@@ -48,14 +49,14 @@ fn mark(record: &mut [u64], on: bool, answer: &mut [u64]) -> u32
         return 2;
     }
     if record.len() < 6 {
-        return answers::put(answer, answers::none(2));
+        return telling::put(answer, answers::none(2));
     }
     let r = reading::record(record);
     let c = r.marked(on);
     let a = c.answer;
     let w = answers::done(a);
     writing::mark(record, w.number, on);
-    answers::put(answer, w)
+    telling::put(answer, w)
 }
 
 #[no_mangle]

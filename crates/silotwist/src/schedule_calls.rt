@@ -1,26 +1,17 @@
-// The scheduler's calls.
-use crate::answers;
-use crate::reading;
-use crate::writing;
+// Fresh start, count, window and reset.
+use face_words::answers;
+use face_words::reading;
+use face_words::telling;
+use face_words::writing;
 use time::Margin;
-ghost use mathlib.Core.Path.{_≡_};
 ghost use lib.ListN.{length};
-ghost use Rattle.deletions.specs.Deleting.{deleteByIdIn, deleteKeepingIn, deleteWindowIn, resetIn};
+ghost use Rattle.deletions.specs.Deleting.{resetIn};
 ghost use Rattle.deletions.specs.Windowing.{retrieveIn};
-ghost use Rattle.insertions.specs.Inserting.{insertStoredIn, insertUnwrappedIn, insertWrappedIn};
+ghost use Rattle.face_words.specs.Reading.{windowFrom, word};
 ghost use Rattle.schedule.specs.Counting.{countIn};
 ghost use Rattle.schedule.specs.Starting.{startIn};
 ghost use Rattle.silotwist.specs.Face.{Answers};
-ghost use Rattle.silotwist.specs.Reading.{word};
-ghost use Rattle.silotwist.specs.ScheduleFace.{
-  ScheduleFaces,
-  allWritten,
-  countWritten,
-  judgedCall,
-  resetWritten,
-  scheduleCall,
-  windowFrom,
-};
+ghost use Rattle.silotwist.specs.ScheduleFace.{ScheduleFaces, allWritten, judgedCall, resetWritten, scheduleCall};
 
 #[no_mangle]
 pub extern "C" fn silotwist_count(
@@ -41,12 +32,12 @@ pub extern "C" fn silotwist_count(
     }
     let su = reading::setup(setup);
     if record.len() < 6 {
-        return answers::put(answer, reading::short_record(su));
+        return telling::put(answer, reading::short_record(su));
     }
     let r = reading::record(record);
     let a = schedule::count(su, r, store, lens, rows);
     let w = answers::counted(a);
-    answers::put(answer, w)
+    telling::put(answer, w)
 }
 
 #[no_mangle]
@@ -75,7 +66,7 @@ pub extern "C" fn silotwist_window(
     }
     let su = reading::setup(setup);
     if record.len() < 6 {
-        return answers::put(answer, reading::short_record(su));
+        return telling::put(answer, reading::short_record(su));
     }
     let r = reading::record(record);
     let from = reading::time(from_secs, from_nanos);
@@ -83,230 +74,7 @@ pub extern "C" fn silotwist_window(
     let v = reading::window(has_from, from, has_to, to);
     let a = deletions::retrieve_by_time_filter(su, r, store, lens, rows, v);
     let w = answers::retrieved(a);
-    answers::put(answer, w)
-}
-
-#[no_mangle]
-pub extern "C" fn silotwist_insert_wrapped(
-    setup: &[u64],
-    record: &mut [u64],
-    store: &mut [u8],
-    lens: &mut [u16],
-    rows: &mut [u64],
-    packet: &[u8],
-    answer: &mut [u64],
-) -> u32
-    ensures { λ n. ⌜ ScheduleFaces (now (setup .entry)) (word (now («record» .entry)) 0)
-        (judgedCall (now (answer .entry)) (now (setup .entry)) (now («record» .entry)) (now (store .entry)) (now (lens .entry)) (now (rows .entry))
-        (λ su. insertWrappedIn su (now (packet .entry))))
-        (countWritten (now («record» .entry)))
-        (now («record» .entry)) (now (store .entry)) (now (lens .entry)) (now (rows .entry)) (now (answer .entry)) n
-        (now («record» .exit)) (now (store .exit)) (now (lens .exit)) (now (rows .exit)) (now (answer .exit)) ⌝ }
-{
-    if answer.len() < 8 {
-        return 2;
-    }
-    let su = reading::setup(setup);
-    if record.len() < 6 {
-        return answers::put(answer, reading::short_record(su));
-    }
-    let r = reading::record(record);
-    let c = insertions::insert_wrapped_tc(su, r, store, lens, rows, packet);
-    let next = c.next;
-    let a = c.answer;
-    let w = answers::inserted(a);
-    writing::count(record, next.count);
-    answers::put(answer, w)
-}
-
-#[no_mangle]
-pub extern "C" fn silotwist_insert_unwrapped(
-    setup: &[u64],
-    record: &mut [u64],
-    store: &mut [u8],
-    lens: &mut [u16],
-    rows: &mut [u64],
-    secs: i64,
-    nanos: u32,
-    packet: &[u8],
-    answer: &mut [u64],
-) -> u32
-    ensures { λ n. ⌜ ScheduleFaces (now (setup .entry)) (word (now («record» .entry)) 0)
-        (judgedCall (now (answer .entry)) (now (setup .entry)) (now («record» .entry)) (now (store .entry)) (now (lens .entry)) (now (rows .entry))
-        (λ su. insertUnwrappedIn su (record { secs = secs; nanos = nanos }) (now (packet .entry))))
-        (countWritten (now («record» .entry)))
-        (now («record» .entry)) (now (store .entry)) (now (lens .entry)) (now (rows .entry)) (now (answer .entry)) n
-        (now («record» .exit)) (now (store .exit)) (now (lens .exit)) (now (rows .exit)) (now (answer .exit)) ⌝ }
-{
-    if answer.len() < 8 {
-        return 2;
-    }
-    let su = reading::setup(setup);
-    if record.len() < 6 {
-        return answers::put(answer, reading::short_record(su));
-    }
-    let r = reading::record(record);
-    let t = reading::time(secs, nanos);
-    let c = insertions::insert_unwrapped_tc(su, r, store, lens, rows, t, packet);
-    let next = c.next;
-    let a = c.answer;
-    let w = answers::inserted(a);
-    writing::count(record, next.count);
-    answers::put(answer, w)
-}
-
-#[no_mangle]
-pub extern "C" fn silotwist_insert_stored(
-    setup: &[u64],
-    record: &mut [u64],
-    store: &mut [u8],
-    lens: &mut [u16],
-    rows: &mut [u64],
-    secs: i64,
-    nanos: u32,
-    request_id: u64,
-    address: u64,
-    answer: &mut [u64],
-) -> u32
-    ensures { λ n. ⌜ ScheduleFaces (now (setup .entry)) (word (now («record» .entry)) 0)
-        (judgedCall (now (answer .entry)) (now (setup .entry)) (now («record» .entry)) (now (store .entry)) (now (lens .entry)) (now (rows .entry))
-        (λ su. insertStoredIn su (record { secs = secs; nanos = nanos }) «request_id» address))
-        (countWritten (now («record» .entry)))
-        (now («record» .entry)) (now (store .entry)) (now (lens .entry)) (now (rows .entry)) (now (answer .entry)) n
-        (now («record» .exit)) (now (store .exit)) (now (lens .exit)) (now (rows .exit)) (now (answer .exit)) ⌝ }
-{
-    if answer.len() < 8 {
-        return 2;
-    }
-    let su = reading::setup(setup);
-    if record.len() < 6 {
-        return answers::put(answer, reading::short_record(su));
-    }
-    let r = reading::record(record);
-    let t = reading::time(secs, nanos);
-    let c = insertions::insert_unwrapped_and_stored_tc(
-        su,
-        r,
-        store,
-        lens,
-        rows,
-        t,
-        request_id,
-        address,
-    );
-    let next = c.next;
-    let a = c.answer;
-    let w = answers::done(a);
-    writing::count(record, next.count);
-    answers::put(answer, w)
-}
-
-#[no_mangle]
-pub extern "C" fn silotwist_delete_window(
-    setup: &[u64],
-    record: &mut [u64],
-    store: &mut [u8],
-    lens: &mut [u16],
-    rows: &mut [u64],
-    has_from: bool,
-    from_secs: i64,
-    from_nanos: u32,
-    has_to: bool,
-    to_secs: i64,
-    to_nanos: u32,
-    answer: &mut [u64],
-) -> u32
-    ensures { λ n. ⌜ ScheduleFaces (now (setup .entry)) (word (now («record» .entry)) 0)
-        (judgedCall (now (answer .entry)) (now (setup .entry)) (now («record» .entry)) (now (store .entry)) (now (lens .entry)) (now (rows .entry))
-        (λ su. deleteWindowIn (windowFrom
-        «has_from» (record { secs = «from_secs»; nanos = «from_nanos» }) «has_to» (record { secs = «to_secs»; nanos = «to_nanos» }))))
-        (countWritten (now («record» .entry)))
-        (now («record» .entry)) (now (store .entry)) (now (lens .entry)) (now (rows .entry)) (now (answer .entry)) n
-        (now («record» .exit)) (now (store .exit)) (now (lens .exit)) (now (rows .exit)) (now (answer .exit)) ⌝ }
-{
-    if answer.len() < 8 {
-        return 2;
-    }
-    let su = reading::setup(setup);
-    if record.len() < 6 {
-        return answers::put(answer, reading::short_record(su));
-    }
-    let r = reading::record(record);
-    let from = reading::time(from_secs, from_nanos);
-    let to = reading::time(to_secs, to_nanos);
-    let v = reading::window(has_from, from, has_to, to);
-    let c = deletions::delete_by_time_filter(su, r, store, lens, rows, v);
-    let next = c.next;
-    let a = c.answer;
-    let w = answers::cleared(a);
-    writing::count(record, next.count);
-    answers::put(answer, w)
-}
-
-#[no_mangle]
-pub extern "C" fn silotwist_delete_by_id_keep(
-    setup: &[u64],
-    record: &mut [u64],
-    store: &mut [u8],
-    lens: &mut [u16],
-    rows: &mut [u64],
-    request_id: u64,
-    answer: &mut [u64],
-) -> u32
-    ensures { λ n. ⌜ ScheduleFaces (now (setup .entry)) (word (now («record» .entry)) 0)
-        (judgedCall (now (answer .entry)) (now (setup .entry)) (now («record» .entry)) (now (store .entry)) (now (lens .entry)) (now (rows .entry))
-        (λ su. deleteKeepingIn «request_id»))
-        (countWritten (now («record» .entry)))
-        (now («record» .entry)) (now (store .entry)) (now (lens .entry)) (now (rows .entry)) (now (answer .entry)) n
-        (now («record» .exit)) (now (store .exit)) (now (lens .exit)) (now (rows .exit)) (now (answer .exit)) ⌝ }
-{
-    if answer.len() < 8 {
-        return 2;
-    }
-    let su = reading::setup(setup);
-    if record.len() < 6 {
-        return answers::put(answer, reading::short_record(su));
-    }
-    let r = reading::record(record);
-    let c = deletions::delete_by_request_id(su, r, store, lens, rows, request_id);
-    let next = c.next;
-    let a = c.answer;
-    let w = answers::taken(a);
-    writing::count(record, next.count);
-    answers::put(answer, w)
-}
-
-#[no_mangle]
-pub extern "C" fn silotwist_delete_by_id(
-    setup: &[u64],
-    record: &mut [u64],
-    store: &mut [u8],
-    lens: &mut [u16],
-    rows: &mut [u64],
-    request_id: u64,
-    answer: &mut [u64],
-) -> u32
-    ensures { λ n. ⌜ ScheduleFaces (now (setup .entry)) (word (now («record» .entry)) 0)
-        (judgedCall (now (answer .entry)) (now (setup .entry)) (now («record» .entry)) (now (store .entry)) (now (lens .entry)) (now (rows .entry))
-        (λ su. deleteByIdIn «request_id»))
-        (countWritten (now («record» .entry)))
-        (now («record» .entry)) (now (store .entry)) (now (lens .entry)) (now (rows .entry)) (now (answer .entry)) n
-        (now («record» .exit)) (now (store .exit)) (now (lens .exit)) (now (rows .exit)) (now (answer .exit)) ⌝ }
-{
-    if answer.len() < 8 {
-        return 2;
-    }
-    let su = reading::setup(setup);
-    if record.len() < 6 {
-        return answers::put(answer, reading::short_record(su));
-    }
-    let r = reading::record(record);
-    let c = deletions::delete_by_request_id_and_from_pool(su, r, store, lens, rows, request_id);
-    let next = c.next;
-    let a = c.answer;
-    let w = answers::freed(a);
-    writing::count(record, next.count);
-    answers::put(answer, w)
+    telling::put(answer, w)
 }
 
 #[no_mangle]
@@ -330,7 +98,7 @@ pub extern "C" fn silotwist_reset(
     }
     let su = reading::setup(setup);
     if record.len() < 6 {
-        return answers::put(answer, reading::short_record(su));
+        return telling::put(answer, reading::short_record(su));
     }
     let r = reading::record(record);
     let c = deletions::reset(su, r, store, lens, rows);
@@ -339,7 +107,7 @@ pub extern "C" fn silotwist_reset(
     let w = answers::cleared(a);
     writing::count(record, next.count);
     writing::mark(record, w.number, false);
-    answers::put(answer, w)
+    telling::put(answer, w)
 }
 
 #[no_mangle]
@@ -368,7 +136,7 @@ pub extern "C" fn silotwist_fresh(
     }
     let su = reading::setup(setup);
     if record.len() < 6 {
-        return answers::put(answer, reading::short_record(su));
+        return telling::put(answer, reading::short_record(su));
     }
     let r = reading::record(record);
     let t = reading::time(clock_secs, clock_nanos);
@@ -381,5 +149,5 @@ pub extern "C" fn silotwist_fresh(
     let a = c.answer;
     let w = answers::done(a);
     writing::all(record, w.number, next);
-    answers::put(answer, w)
+    telling::put(answer, w)
 }

@@ -1,7 +1,8 @@
 // The store's calls.
-use crate::Words;
-use crate::answers;
-use crate::reading;
+use face_words::Words;
+use face_words::answers;
+use face_words::reading;
+use face_words::telling;
 use store::Setup;
 use store::Verdict;
 use store::Whereabouts;
@@ -9,7 +10,7 @@ ghost use mathlib.Core.Path.{_≡_};
 ghost use Rattle.store.specs.Calls.{addIn, deleteIn, hasIn, judging, lenIn, packetIn, readIn};
 ghost use Rattle.silotwist.specs.Face.{Answers};
 ghost use Rattle.rules.specs.Papers.{says};
-ghost use Rattle.silotwist.specs.Inside.{wordsOf};
+ghost use Rattle.face_words.specs.Inside.{wordsOf};
 ghost use Rattle.silotwist.specs.StoreFace.{BufferFaces, StoreFaces, partIn, storeCall};
 
 #[no_mangle]
@@ -31,7 +32,7 @@ pub extern "C" fn silotwist_store_add(
     let su = reading::store_setup(setup);
     let a = store::add(su, store, lens, data);
     let w = answers::added(a);
-    answers::put(answer, w)
+    telling::put(answer, w)
 }
 
 #[no_mangle]
@@ -54,7 +55,7 @@ pub extern "C" fn silotwist_store_read(
     let su = reading::store_setup(setup);
     let a = store::read(su, store, lens, address, buffer);
     let w = answers::length(a);
-    answers::put(answer, w)
+    telling::put(answer, w)
 }
 
 #[no_mangle]
@@ -75,7 +76,7 @@ pub extern "C" fn silotwist_store_modify(
     let su = reading::store_setup(setup);
     let a = store::modify(su, store, lens, address);
     let w = answers::length(a);
-    answers::put(answer, w)
+    telling::put(answer, w)
 }
 
 #[no_mangle]
@@ -95,7 +96,7 @@ pub extern "C" fn silotwist_store_part(
     }
     let su = reading::store_setup(setup);
     let w = part(su, store, lens, address);
-    answers::put(answer, w)
+    telling::put(answer, w)
 }
 
 // Where the packet's bytes lie in the store.
@@ -133,7 +134,7 @@ pub extern "C" fn silotwist_store_delete(
     let su = reading::store_setup(setup);
     let a = store::delete(su, store, lens, address);
     let w = answers::deleted(a);
-    answers::put(answer, w)
+    telling::put(answer, w)
 }
 
 #[no_mangle]
@@ -154,7 +155,7 @@ pub extern "C" fn silotwist_store_has(
     let su = reading::store_setup(setup);
     let a = store::has_element_at(su, store, lens, address);
     let w = answers::presence(a);
-    answers::put(answer, w)
+    telling::put(answer, w)
 }
 
 #[no_mangle]
@@ -175,5 +176,5 @@ pub extern "C" fn silotwist_store_len(
     let su = reading::store_setup(setup);
     let a = store::len_of_data(su, store, lens, address);
     let w = answers::length(a);
-    answers::put(answer, w)
+    telling::put(answer, w)
 }

@@ -1,8 +1,9 @@
 // The release tick.
-use crate::answers;
-use crate::reading;
-use crate::writing;
-ghost use Rattle.silotwist.specs.Reading.{word};
+use face_words::answers;
+use face_words::reading;
+use face_words::telling;
+use face_words::writing;
+ghost use Rattle.face_words.specs.Reading.{word};
 ghost use Rattle.silotwist.specs.ScheduleFace.{countWritten, judgedCall};
 ghost use Rattle.silotwist.specs.TickFace.{TickFaces};
 ghost use Rattle.tick.specs.Tick.{tickIn};
@@ -31,7 +32,7 @@ pub extern "C" fn silotwist_tick(
     }
     let su = reading::setup(setup);
     if record.len() < 6 {
-        return answers::put(answer, reading::short_record(su));
+        return telling::put(answer, reading::short_record(su));
     }
     let r = reading::record(record);
     let most = limit as usize;
@@ -40,5 +41,5 @@ pub extern "C" fn silotwist_tick(
     let a = c.answer;
     let w = answers::ticked(a);
     writing::count(record, next.count);
-    answers::put(answer, w)
+    telling::put(answer, w)
 }

@@ -1,0 +1,43 @@
+-- The record's words, as the stores leave them.
+-- Assumes nothing.
+use Prim.Native.Nat.{_<_, _≤_, ℕ}
+use Rattle.face_words.specs.Inside.{writtenIf}
+use Rattle.store.specs.Refusals.{bit}
+use borrow.Author.Tests.{eq-eqb, ne-eqb}
+use lib.ListN.{drop, getD, length, set}
+use mathlib.Core.Bool.{Bool, false, true}
+use mathlib.Core.List.{List, [], _∷_}
+use mathlib.Core.Path.{_∙_, _≡_, ap, refl}
+use mir.Val.{boolByte}
+use native.Mathlib.Omega.{arith}
+
+pub written : (n : ℕ) (x new old : List ℕ) → n ≡ 0 → x ≡ new → x ≡ writtenIf n new old
+unfolding writtenIf
+written n x new old e q = rw (eq-eqb n 0 e) q
+
+pub unwritten : (n : ℕ) (new old : List ℕ) → (n ≡ 0 → ⊥) → old ≡ writtenIf n new old
+unfolding writtenIf
+unwritten n new old e = rw (ne-eqb n 0 e)
+
+pub bit-is : (b : Bool) → boolByte b ≡ bit b
+bit-is true = refl
+bit-is false = refl
+
+pub six : (ws : List ℕ) (a b d e f g : ℕ) → 6 ≤ length ws
+    → set (set (set (set (set (set ws 0 a) 1 b) 2 d) 3 e) 4 f) 5 g ≡ a ∷ b ∷ d ∷ e ∷ f ∷ g ∷ drop 6 ws
+six [] a b d e f g l = absurd (omega arith)
+six (p ∷ []) a b d e f g l = absurd (omega arith)
+six (p ∷ q ∷ []) a b d e f g l = absurd (omega arith)
+six (p ∷ q ∷ r ∷ []) a b d e f g l = absurd (omega arith)
+six (p ∷ q ∷ r ∷ s ∷ []) a b d e f g l = absurd (omega arith)
+six (p ∷ q ∷ r ∷ s ∷ t ∷ []) a b d e f g l = absurd (omega arith)
+six (p ∷ q ∷ r ∷ s ∷ t ∷ u ∷ ws) a b d e f g l = refl
+
+-- a word written with what it was
+pub set-same : (ws : List ℕ) (n : ℕ) → 1 ≤ length ws → n ≡ getD ws 0 0 → set ws 0 n ≡ ws
+set-same [] n l e = refl
+set-same (w ∷ ws) n l e = ap (λ x. x ∷ ws) e
+
+pub six-are : (ws : List ℕ) {a b d e f g a′ b′ d′ e′ f′ g′ : ℕ} → 6 ≤ length ws → a ≡ a′ → b ≡ b′ → d ≡ d′ → e ≡ e′ → f ≡ f′ → g ≡ g′
+    → set (set (set (set (set (set ws 0 a) 1 b) 2 d) 3 e) 4 f) 5 g ≡ a′ ∷ b′ ∷ d′ ∷ e′ ∷ f′ ∷ g′ ∷ drop 6 ws
+six-are ws {a} {b} {d} {e} {f} {g} l p q r s t u = six ws a b d e f g l ∙ cc

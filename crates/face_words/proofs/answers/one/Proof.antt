@@ -1,0 +1,13 @@
+-- `face_words::answers::one` meets its contract.
+-- Assumes nothing.
+use borrow.Author.Needs.{needs}
+use Rattle.face_words.specs.Padding.{padded}
+use Rattle.face_words.proofs.answers.one.Statement.{statement}
+use Rattle.face_words.proofs.answers.one.Tie as tie
+
+returns : tie.Need-returns
+unfolding padded
+returns c = search needs
+
+pub one-spec : {M : Type 1} → statement M
+one-spec = tie.close (tie.spec returns)

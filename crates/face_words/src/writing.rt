@@ -1,0 +1,61 @@
+// The words of the record, written: only those that a call changes.
+use crate::answers;
+use record::Record;
+use time::UnixTime;
+ghost use mathlib.Core.Path.{_≡_};
+ghost use mathlib.Core.List.{_∷_};
+ghost use Prim.Native.Nat.{_≤_};
+ghost use lib.ListN.{drop, length, set};
+ghost use Rattle.record.specs.Refusals.{marginWords, timeWords, wordOf};
+ghost use Rattle.store.specs.Refusals.{bit};
+ghost use Rattle.face_words.specs.Inside.{writtenIf};
+
+// The count.
+pub fn count(record: &mut [u64], n: usize)
+    requires { ⌜ 6 ≤ length (now «record») ⌝ }
+    ensures { λ r. ⌜ now («record» .exit) ≡ set (now («record» .entry)) 0 n ⌝ }
+{
+    record[0] = answers::wide(n);
+}
+
+// The clock, where the call was carried out.
+pub fn clock(record: &mut [u64], number: u32, t: UnixTime)
+    requires { ⌜ 6 ≤ length (now «record») ⌝ }
+    ensures { λ r. ⌜ now («record» .exit)
+        ≡ writtenIf number (set (set (now («record» .entry)) 1 (wordOf (t .secs))) 2 (t .nanos)) (now («record» .entry)) ⌝ }
+{
+    if number == 0 {
+        record[1] = answers::word_of(t.secs);
+        record[2] = answers::wide32(t.nanos);
+    }
+}
+
+// The mark, where the call was carried out.
+pub fn mark(record: &mut [u64], number: u32, on: bool)
+    requires { ⌜ 6 ≤ length (now «record») ⌝ }
+    ensures { λ r. ⌜ now («record» .exit) ≡ writtenIf number (set (now («record» .entry)) 5 (bit on)) (now («record» .entry)) ⌝ }
+{
+    if number == 0 {
+        record[5] = on as u64;
+    }
+}
+
+// All six words, where the call was carried out.
+pub fn all(record: &mut [u64], number: u32, r: Record)
+    requires { ⌜ 6 ≤ length (now «record») ⌝ }
+    ensures { λ x. ⌜ now («record» .exit)
+        ≡ writtenIf number
+        (r .count ∷ timeWords (r .clock) (marginWords (r .margin) (bit (r .enabled) ∷ drop 6 (now («record» .entry)))))
+        (now («record» .entry)) ⌝ }
+{
+    if number == 0 {
+        let c = r.clock;
+        let m = r.margin;
+        record[0] = answers::wide(r.count);
+        record[1] = answers::word_of(c.secs);
+        record[2] = answers::wide32(c.nanos);
+        record[3] = m.secs;
+        record[4] = answers::wide32(m.nanos);
+        record[5] = r.enabled as u64;
+    }
+}

@@ -1,0 +1,123 @@
+// The insertions.
+use face_words::answers;
+use face_words::reading;
+use face_words::telling;
+use face_words::writing;
+ghost use Rattle.face_words.specs.Reading.{word};
+ghost use Rattle.insertions.specs.Inserting.{insertStoredIn, insertUnwrappedIn, insertWrappedIn};
+ghost use Rattle.silotwist.specs.ScheduleFace.{ScheduleFaces, countWritten, judgedCall};
+
+#[no_mangle]
+pub extern "C" fn silotwist_insert_wrapped(
+    setup: &[u64],
+    record: &mut [u64],
+    store: &mut [u8],
+    lens: &mut [u16],
+    rows: &mut [u64],
+    packet: &[u8],
+    answer: &mut [u64],
+) -> u32
+    ensures { λ n. ⌜ ScheduleFaces (now (setup .entry)) (word (now («record» .entry)) 0)
+        (judgedCall (now (answer .entry)) (now (setup .entry)) (now («record» .entry)) (now (store .entry)) (now (lens .entry)) (now (rows .entry))
+        (λ su. insertWrappedIn su (now (packet .entry))))
+        (countWritten (now («record» .entry)))
+        (now («record» .entry)) (now (store .entry)) (now (lens .entry)) (now (rows .entry)) (now (answer .entry)) n
+        (now («record» .exit)) (now (store .exit)) (now (lens .exit)) (now (rows .exit)) (now (answer .exit)) ⌝ }
+{
+    if answer.len() < 8 {
+        return 2;
+    }
+    let su = reading::setup(setup);
+    if record.len() < 6 {
+        return telling::put(answer, reading::short_record(su));
+    }
+    let r = reading::record(record);
+    let c = insertions::insert_wrapped_tc(su, r, store, lens, rows, packet);
+    let next = c.next;
+    let a = c.answer;
+    let w = answers::inserted(a);
+    writing::count(record, next.count);
+    telling::put(answer, w)
+}
+
+#[no_mangle]
+pub extern "C" fn silotwist_insert_unwrapped(
+    setup: &[u64],
+    record: &mut [u64],
+    store: &mut [u8],
+    lens: &mut [u16],
+    rows: &mut [u64],
+    secs: i64,
+    nanos: u32,
+    packet: &[u8],
+    answer: &mut [u64],
+) -> u32
+    ensures { λ n. ⌜ ScheduleFaces (now (setup .entry)) (word (now («record» .entry)) 0)
+        (judgedCall (now (answer .entry)) (now (setup .entry)) (now («record» .entry)) (now (store .entry)) (now (lens .entry)) (now (rows .entry))
+        (λ su. insertUnwrappedIn su (record { secs = secs; nanos = nanos }) (now (packet .entry))))
+        (countWritten (now («record» .entry)))
+        (now («record» .entry)) (now (store .entry)) (now (lens .entry)) (now (rows .entry)) (now (answer .entry)) n
+        (now («record» .exit)) (now (store .exit)) (now (lens .exit)) (now (rows .exit)) (now (answer .exit)) ⌝ }
+{
+    if answer.len() < 8 {
+        return 2;
+    }
+    let su = reading::setup(setup);
+    if record.len() < 6 {
+        return telling::put(answer, reading::short_record(su));
+    }
+    let r = reading::record(record);
+    let t = reading::time(secs, nanos);
+    let c = insertions::insert_unwrapped_tc(su, r, store, lens, rows, t, packet);
+    let next = c.next;
+    let a = c.answer;
+    let w = answers::inserted(a);
+    writing::count(record, next.count);
+    telling::put(answer, w)
+}
+
+#[no_mangle]
+pub extern "C" fn silotwist_insert_stored(
+    setup: &[u64],
+    record: &mut [u64],
+    store: &mut [u8],
+    lens: &mut [u16],
+    rows: &mut [u64],
+    secs: i64,
+    nanos: u32,
+    request_id: u64,
+    address: u64,
+    answer: &mut [u64],
+) -> u32
+    ensures { λ n. ⌜ ScheduleFaces (now (setup .entry)) (word (now («record» .entry)) 0)
+        (judgedCall (now (answer .entry)) (now (setup .entry)) (now («record» .entry)) (now (store .entry)) (now (lens .entry)) (now (rows .entry))
+        (λ su. insertStoredIn su (record { secs = secs; nanos = nanos }) «request_id» address))
+        (countWritten (now («record» .entry)))
+        (now («record» .entry)) (now (store .entry)) (now (lens .entry)) (now (rows .entry)) (now (answer .entry)) n
+        (now («record» .exit)) (now (store .exit)) (now (lens .exit)) (now (rows .exit)) (now (answer .exit)) ⌝ }
+{
+    if answer.len() < 8 {
+        return 2;
+    }
+    let su = reading::setup(setup);
+    if record.len() < 6 {
+        return telling::put(answer, reading::short_record(su));
+    }
+    let r = reading::record(record);
+    let t = reading::time(secs, nanos);
+    let c = insertions::insert_unwrapped_and_stored_tc(
+        su,
+        r,
+        store,
+        lens,
+        rows,
+        t,
+        request_id,
+        address,
+    );
+    let next = c.next;
+    let a = c.answer;
+    let w = answers::done(a);
+    writing::count(record, next.count);
+    telling::put(answer, w)
+}
