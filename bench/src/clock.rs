@@ -3,7 +3,7 @@ use std::hint::black_box;
 use std::time::{Duration, Instant};
 
 /// How long a round lasts, roughly, and the fewest and most calls of one.
-const ROUND: Duration = Duration::from_millis(12);
+const ROUND: Duration = Duration::from_millis(8);
 const FEWEST: u32 = 31;
 const MOST: u32 = 3_001;
 

@@ -4,6 +4,7 @@
 mod c_library;
 mod clock;
 mod loops;
+mod measure;
 mod original;
 #[allow(dead_code)]
 #[path = "../../tests/driver/src/packets.rs"]
@@ -15,5 +16,5 @@ mod this;
 
 fn main() {
     same::assert_same();
-    table::print();
+    table::print(&measure::measure());
 }
