@@ -45,16 +45,34 @@ pub mod tc {
         total: usize,
     }
 
-    fn crc16(bytes: &[u8]) -> u16 {
-        bytes.iter().fold(0xFFFF, |code, &byte| {
-            (0..8).fold(code ^ (byte as u16) << 8, |c, _| {
-                if c & 0x8000 != 0 {
-                    c << 1 ^ 0x1021
-                } else {
-                    c << 1
-                }
-            })
-        })
+    /// What eight shifts make of a code.
+    const fn shifted(mut code: u16) -> u16 {
+        let mut n = 0;
+        while n < 8 {
+            code = if code & 0x8000 != 0 { code << 1 ^ 0x1021 } else { code << 1 };
+            n += 1;
+        }
+        code
+    }
+
+    #[cfg(not(feature = "table"))]
+    pub fn crc16(bytes: &[u8]) -> u16 {
+        bytes.iter().fold(0xFFFF, |code, &byte| shifted(code ^ (byte as u16) << 8))
+    }
+
+    #[cfg(feature = "table")]
+    pub fn crc16(bytes: &[u8]) -> u16 {
+        static TABLE: [u16; 256] = {
+            let mut table = [0; 256];
+            let mut k = 0;
+            while k < 256 {
+                table[k] = shifted((k as u16) << 8);
+                k += 1;
+            }
+            table
+        };
+        let step = |code: u16, &byte: &u8| code << 8 ^ TABLE[(code >> 8 ^ byte as u16) as usize];
+        bytes.iter().fold(0xFFFF, step)
     }
 
     impl<'a> PusTcReader<'a> {
