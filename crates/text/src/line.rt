@@ -94,6 +94,19 @@ pub fn index(text: &[u8], k: usize) -> usize {
     number(text, k) as usize
 }
 
+// As much as word k says, or the most where it says more.
+pub fn part(text: &[u8], k: usize, most: usize) -> usize
+    ensures { λ r. ⌜ r ≤ most ⌝ }
+{
+    least(index(text, k), most)
+}
+
+pub fn least(a: usize, most: usize) -> usize
+    ensures { λ r. ⌜ r ≤ most ⌝ }
+{
+    if a <= most { a } else { most }
+}
+
 // The last 32, 16 or 8 bits of a number.
 pub fn long(text: &[u8], k: usize) -> u32 {
     (number(text, k) % 4294967296) as u32

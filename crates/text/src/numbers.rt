@@ -1,36 +1,53 @@
 // Digits and the numbers that they write.
 ghost use mathlib.Core.Path.{_≡_};
-ghost use Prim.Native.Nat.{_<_, _≤_};
+ghost use Prim.Native.Nat.{_*_, _+_, _-_, _<_};
+ghost use lib.ListN.{drop};
+ghost use Rattle.text.specs.Digits.{digits, held, isDigit, value};
 
-fn is_digit(b: u8) -> bool {
-    if b < b'0' {
+fn is_digit(b: u8) -> bool
+    ensures { λ r. ⌜ r ≡ isDigit b ⌝ }
+{
+    if b < 48 {
         return false;
     }
-    b <= b'9'
+    b < 58
+}
+
+fn over_zero(b: u8) -> u64
+    ensures { λ r. ⌜ r ≡ b - 48 ⌝ }
+{
+    if b < 48 {
+        return 0;
+    }
+    (b - 48) as u64
 }
 
 // One digit more; the largest there is where it does not fit.
-fn with_digit(v: u64, b: u8) -> u64 {
-    let d = digit(b) as u64;
+fn with_digit(v: u64, d: u64) -> u64
+    ensures { λ r. ⌜ r ≡ held (v * 10 + d) ⌝ }
+{
     if v > 1844674407370955161 {
         return 18446744073709551615;
     }
-    if v * 10 > 18446744073709551615 - d {
+    if d > 18446744073709551615 - v * 10 {
         return 18446744073709551615;
     }
     v * 10 + d
 }
 
 // The number whose digits begin at a place.
-pub fn decimal(text: &[u8], at: usize) -> u64 {
+pub fn decimal(text: &[u8], at: usize) -> u64
+    ensures { λ r. ⌜ r ≡ digits 0 (drop at (now (text .entry))) ⌝ }
+{
     let mut v: u64 = 0;
     let mut i = at;
     while i < text.len() {
-        if !is_digit(text[i]) {
+        if is_digit(text[i]) {
+            v = with_digit(v, over_zero(text[i]));
+            i += 1;
+        } else {
             return v;
         }
-        v = with_digit(v, text[i]);
-        i += 1;
     }
     v
 }
@@ -51,23 +68,22 @@ pub fn below(v: u64) -> i64 {
     0 - (v as i64)
 }
 
-// The value of a digit, also of the six from A on; 16 for another byte.
 fn digit(b: u8) -> u8
-    ensures { λ r. ⌜ r ≤ 16 ⌝ }
+    ensures { λ r. ⌜ r ≡ value b ⌝ }
 {
-    if b < b'0' {
+    if b < 48 {
         return 16;
     }
-    if b <= b'9' {
-        return b - b'0';
+    if b < 58 {
+        return b - 48;
     }
-    if b < b'A' {
+    if b < 65 {
         return 16;
     }
-    if b > b'F' {
-        return 16;
+    if b < 71 {
+        return b - 55;
     }
-    b - 55
+    16
 }
 
 pub fn both(a: u8, b: u8) -> bool {

@@ -1,7 +1,9 @@
 // Text, numbers, times and bytes on standard output.
 use time::Margin;
 use time::UnixTime;
+ghost use mathlib.Core.Path.{_≡_};
 ghost use Prim.Native.Nat.{_<_};
+ghost use Rattle.text.specs.Digits.{value};
 
 pub fn say(text: &[u8]) {
     io::write_all(libc::STDOUT_FILENO, text);
@@ -92,8 +94,10 @@ pub fn byte(b: u8) {
     say(&two);
 }
 
+// Read back, it is the digit.
 fn digit(d: u8) -> u8
     requires { ⌜ d < 16 ⌝ }
+    ensures { λ r. ⌜ value r ≡ d ⌝ }
 {
     if d < 10 { 48 + d } else { 55 + d }
 }

@@ -1,21 +1,23 @@
--- `schedule_cases::state::same_lens` meets its contract.
-use Prim.Native.Nat.{_-_, _≤_}
+-- `text::same::longs` meets its contract.
+use Prim.Native.Nat.{_-_}
+use lib.ListN.{length}
 use borrow.Author.Needs.{needs}
-use Rattle.schedule_cases.proofs.state.same_lens.Statement.{statement}
-use Rattle.schedule_cases.proofs.state.same_lens.Tie as tie
+use Rattle.text.proofs.same.longs.Statement.{statement}
+use Rattle.text.proofs.same.longs.Tie as tie
 
 abbrev Inv-loop : tie.InvT-loop
-Inv-loop a b i₀ i = i ≤ 7
+Inv-loop a b i₀ i = Unit {0}
 
 abbrev μ-loop : tie.MeasureT-loop
-μ-loop a b i₀ i = 7 - i
+μ-loop a b i₀ i = length a - i
 
-pub same-lens-spec : {M : Type 1} → statement M
-same-lens-spec =
+pub longs-spec : {M : Type 1} → statement M
+longs-spec =
     tie.close
     (tie.spec
     Inv-loop
     μ-loop
+    (λ c. search needs)
     (λ c. search needs)
     (λ c. search needs)
     (λ c. search needs)

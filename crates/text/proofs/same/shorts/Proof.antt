@@ -1,21 +1,23 @@
--- `schedule_cases::state::same_rows` meets its contract.
-use Prim.Native.Nat.{_-_, _≤_}
+-- `text::same::shorts` meets its contract.
+use Prim.Native.Nat.{_-_}
+use lib.ListN.{length}
 use borrow.Author.Needs.{needs}
-use Rattle.schedule_cases.proofs.state.same_rows.Statement.{statement}
-use Rattle.schedule_cases.proofs.state.same_rows.Tie as tie
+use Rattle.text.proofs.same.shorts.Statement.{statement}
+use Rattle.text.proofs.same.shorts.Tie as tie
 
 abbrev Inv-loop : tie.InvT-loop
-Inv-loop a b i₀ i = i ≤ 20
+Inv-loop a b i₀ i = Unit {0}
 
 abbrev μ-loop : tie.MeasureT-loop
-μ-loop a b i₀ i = 20 - i
+μ-loop a b i₀ i = length a - i
 
-pub same-rows-spec : {M : Type 1} → statement M
-same-rows-spec =
+pub shorts-spec : {M : Type 1} → statement M
+shorts-spec =
     tie.close
     (tie.spec
     Inv-loop
     μ-loop
+    (λ c. search needs)
     (λ c. search needs)
     (λ c. search needs)
     (λ c. search needs)
