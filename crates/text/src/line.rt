@@ -21,6 +21,16 @@ pub fn end(text: &[u8], at: usize, mark: u8) -> usize
     i
 }
 
+// Where the line behind one that ends at a place begins; the text's end where there is none.
+pub fn next(text: &[u8], end: usize) -> usize
+    ensures { λ r. ⌜ (r ≤ length (now (text .entry))) × (end + 1 ≤ r + (end + 1 - length (now (text .entry)))) ⌝ }
+{
+    if end < text.len() {
+        return end + 1;
+    }
+    text.len()
+}
+
 // Where word k begins, counted from 0; the text's end where there is none.
 pub fn word(text: &[u8], k: usize) -> usize
     ensures { λ r. ⌜ r ≤ length (now (text .entry)) ⌝ }
