@@ -1,34 +1,36 @@
--- `vectors::print::bytes` is safe and ends: the measure is the bytes that are left.
--- Assumes nothing.
-use Prim.Native.Nat.{_-_}
+-- `vectors::all` meets its contract.
 use lib.ListN.{length}
+use Prim.Native.Nat.{_-_, _≤_}
 use borrow.Author.Needs.{needs}
-use Rattle.vectors.proofs.print.bytes.Statement.{statement}
-use Rattle.vectors.proofs.print.bytes.Tie as tie
+use native.Mathlib.Omega.{arith}
+use Rattle.vectors.proofs.all.Statement.{statement}
+use Rattle.vectors.proofs.all.Tie as tie
 
 abbrev Inv-loop : tie.InvT-loop
-Inv-loop s i₀ t4 i = Unit {0}
+Inv-loop text at₀ t5 at = at ≤ length text
 
 abbrev μ-loop : tie.MeasureT-loop
-μ-loop s i₀ t4 i = length s - i
+μ-loop text at₀ t5 at = length text - at
 
-pub bytes-spec : {M : Type 1} → statement M
-bytes-spec =
+pub all-spec : {M : Type 1} → statement M
+all-spec =
     tie.close
     (tie.spec
     Inv-loop
     μ-loop
     (λ c. search needs)
     (λ c κs. search needs)
+    (λ c κs. search needs)
+    (λ c. search needs)
     (λ c. search needs)
     (λ c. search needs)
     (λ c κs. search needs)
     (λ c. search needs)
     (λ c. search needs)
-    (λ c κs. search needs)
     (λ c. search needs)
     (λ c κs. search needs)
     (λ c. search needs)
+    (λ c κs. search needs)
     (λ c. search needs)
     (λ c. search needs)
     (λ c. search needs))
