@@ -1,10 +1,10 @@
 // What a call is given beside the lent tables, and a call of the scheduler on as much of them as is lent.
 use crate::calls;
 use crate::edits;
-use crate::show;
 use record::Record;
 use schedule::Setup;
-ghost use Prim.Native.Nat.{_≤_};
+use text::line;
+use text::out;
 
 // The setup, the record, and how much of the store, the lengths and the rows is lent.
 pub struct Bench {
@@ -28,12 +28,6 @@ pub fn none() -> Bench {
     }
 }
 
-fn least(a: usize, most: usize) -> usize
-    ensures { λ r. ⌜ r ≤ most ⌝ }
-{
-    if a <= most { a } else { most }
-}
-
 pub fn with_record(b: Bench, rec: Record) -> Bench {
     let setup = b.setup;
     Bench {
@@ -54,12 +48,12 @@ pub fn call(
     lens: &mut [u16],
     rows: &mut [u64],
 ) -> Bench {
-    let s = least(b.room, store.len());
-    let l = least(b.lens, lens.len());
-    let r = least(b.rows, rows.len());
+    let s = line::least(b.room, store.len());
+    let l = line::least(b.lens, lens.len());
+    let r = line::least(b.rows, rows.len());
     let setup = b.setup;
     let rec = b.rec;
-    show::say(b" => ");
+    out::say(b" => ");
     let next = calls::run(
         setup,
         rec,

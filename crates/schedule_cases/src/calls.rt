@@ -1,7 +1,6 @@
 // The calls that start a schedule, count it and change the record alone, in place; the others are in `inserting` and `deleting`.
 use crate::inserting;
 use crate::line;
-use crate::show;
 use record::Changed;
 use record::Record;
 use schedule::Setup;
@@ -35,7 +34,7 @@ pub fn run(
 
 pub fn change(c: Changed) -> Record {
     let a = c.answer;
-    show::done(a);
+    shown::done(a);
     c.next
 }
 
@@ -60,6 +59,6 @@ fn start(
 }
 
 fn count(setup: Setup, rec: Record, store: &[u8], lens: &[u16], rows: &[u64]) -> Record {
-    show::counted(schedule::count(setup, rec, store, lens, rows));
+    shown::counted(schedule::count(setup, rec, store, lens, rows));
     rec
 }

@@ -1,6 +1,5 @@
 // Retrieval by window, and the deletions.
 use crate::line;
-use crate::show;
 use deletions::Cleared;
 use deletions::Window;
 use record::Record;
@@ -57,13 +56,13 @@ fn retrieve(
     rows: &[u64],
 ) -> Record {
     let w = window(text);
-    show::retrieved(deletions::retrieve_by_time_filter(setup, rec, store, lens, rows, w));
+    shown::retrieved(deletions::retrieve_by_time_filter(setup, rec, store, lens, rows, w));
     rec
 }
 
 fn cleared(c: Cleared) -> Record {
     let a = c.answer;
-    show::cleared(a);
+    shown::cleared(a);
     c.next
 }
 
@@ -100,7 +99,7 @@ fn take(
     let id = line::number(text, 1);
     let t = deletions::delete_by_request_id(setup, rec, store, lens, rows, id);
     let a = t.answer;
-    show::taken(a);
+    shown::taken(a);
     t.next
 }
 
@@ -115,6 +114,6 @@ fn free(
     let id = line::number(text, 1);
     let f = deletions::delete_by_request_id_and_from_pool(setup, rec, store, lens, rows, id);
     let a = f.answer;
-    show::freed(a);
+    shown::freed(a);
     f.next
 }

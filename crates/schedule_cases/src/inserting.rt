@@ -2,7 +2,6 @@
 use crate::calls;
 use crate::deleting;
 use crate::line;
-use crate::show;
 use insertions::Inserted;
 use record::Record;
 use schedule::Setup;
@@ -30,7 +29,7 @@ pub fn run(
 
 fn inserted(i: Inserted) -> Record {
     let a = i.answer;
-    show::inserted(a);
+    shown::inserted(a);
     i.next
 }
 

@@ -5,10 +5,10 @@ mod deleting;
 mod edits;
 mod inserting;
 mod line;
-mod show;
 mod state;
 
 use bench::Bench;
+use text::out;
 
 fn main() {
     let mut text = io::large_buffer();
@@ -25,10 +25,7 @@ fn all(text: &[u8]) {
     let mut at: usize = 0;
     while at < text.len() {
         let end = line::end(text, at, b'\n');
-        if end >= text.len() {
-            return;
-        }
-        let next = end + 1;
+        let next = line::next(text, end);
         let s = store;
         let l = lens;
         let r = rows;
@@ -39,7 +36,7 @@ fn all(text: &[u8]) {
         if k < line::CALLS {
             state::changes(old, new, &s, &store, &l, &lens, &r, &rows);
         }
-        show::say(b"\n");
+        out::say(b"\n");
         at = next;
     }
 }
@@ -52,7 +49,7 @@ fn one(
     lens: &mut [u16],
     rows: &mut [u64],
 ) -> Bench {
-    show::say(text);
+    out::say(text);
     if k < line::CALLS {
         return bench::call(b, k, text, store, lens, rows);
     }

@@ -1,120 +1,137 @@
-// Packets of no bytes and of a whole slot, and the refusals of an address and of a buffer.
-ghost use Prim.Native.Nat.{_≤_};
-use crate::show;
-use crate::stores;
+// Lines that change what is lent: the store's own calls, and damage.
+use crate::command;
+use store::Added;
 use store::Setup;
-use store::StaticPoolAddr;
+use text::line;
+use text::out;
+ghost use Prim.Native.Nat.{_≤_};
 
-fn about(text: &[u8], setup: Setup, bytes: &[u8], lens: &[u16], addr: u64) {
-    let mut buf = [0u8; 64];
-    show::say(text);
-    show::presence(b": has ", store::has_element_at(setup, bytes, lens, addr));
-    show::length(b", len ", store::len_of_data(setup, bytes, lens, addr));
-    show::length(b", modify ", store::modify(setup, bytes, lens, addr));
-    show::length(b", read ", store::read(setup, bytes, lens, addr, &mut buf));
-    show::say(b"\n");
+pub fn run(
+    setup: Setup,
+    k: usize,
+    text: &[u8],
+    store: &mut [u8],
+    lens: &mut [u16],
+    buf: &mut [u8],
+) {
+    if k == command::START {
+        start(setup, store, lens);
+        return;
+    }
+    if k == command::ADD {
+        add(setup, text, store, lens);
+        return;
+    }
+    if k == command::FILL {
+        fill(setup, text, store, lens);
+        return;
+    }
+    if k == command::DELETE {
+        delete(setup, text, store, lens);
+        return;
+    }
+    if k == command::MODIFY {
+        modify(setup, text, store, lens);
+        return;
+    }
+    damage(k, text, store, lens, buf);
 }
 
-fn adds(text: &[u8], setup: Setup, bytes: &mut [u8], lens: &mut [u16], n: usize)
+fn damage(k: usize, text: &[u8], store: &mut [u8], lens: &mut [u16], buf: &mut [u8]) {
+    if k == command::BYTES {
+        set(line::byte(text, 1), store);
+        set(line::byte(text, 3), buf);
+        return;
+    }
+    if k == command::LENGTHS {
+        set_lengths(line::short(text, 1), lens);
+        return;
+    }
+    if k == command::LENGTH {
+        set_length(text, lens);
+    }
+}
+
+// A fresh start, and the judge.
+fn start(setup: Setup, store: &mut [u8], lens: &mut [u16]) {
+    out::say(b": fresh ");
+    shown::started(store::fresh(setup, store, lens));
+    out::say(b", judge ");
+    shown::verdict(store::judge(setup, store.len(), lens));
+}
+
+// A packet of given bytes; or of a number of bytes, all of one value.
+fn add(setup: Setup, text: &[u8], store: &mut [u8], lens: &mut [u16]) {
+    out::say(b": ");
+    if line::which(text, 1, b"bytes") == 0 {
+        let mut packet = [0u8; 64];
+        let n = line::bytes(text, 2, &mut packet);
+        shown::added(store::add(setup, store, lens, &packet[..n]));
+        return;
+    }
+    shown::added(put(
+        setup,
+        store,
+        lens,
+        line::part(text, 1, 4096),
+        line::byte(text, 3),
+    ));
+}
+
+fn put(setup: Setup, store: &mut [u8], lens: &mut [u16], n: usize, v: u8) -> Added
     requires { ⌜ n ≤ 4096 ⌝ }
 {
-    show::added(text, stores::put(setup, bytes, lens, n, 2));
-    show::say(b"\n");
+    let packet = [v; 4096];
+    store::add(setup, store, lens, &packet[0..n])
 }
 
-fn packets(setup: Setup, bytes: &mut [u8], lens: &mut [u16]) {
-    adds(b"add 0 bytes: ", setup, bytes, lens, 0);
-    adds(b"add 16 bytes: ", setup, bytes, lens, 16);
-    adds(b"add 17 bytes: ", setup, bytes, lens, 17);
+// A number of such packets.
+fn fill(setup: Setup, text: &[u8], store: &mut [u8], lens: &mut [u16]) {
+    let count = line::index(text, 1);
+    let n = line::part(text, 4, 4096);
+    let mut i: usize = 0;
+    while i < count {
+        put(setup, store, lens, n, 1);
+        i += 1;
+    }
 }
 
-fn larger(setup: Setup, bytes: &mut [u8], lens: &mut [u16]) {
-    adds(b"add 64 bytes: ", setup, bytes, lens, 64);
-    adds(b"add 65 bytes: ", setup, bytes, lens, 65);
+fn delete(setup: Setup, text: &[u8], store: &mut [u8], lens: &mut [u16]) {
+    out::say(b": ");
+    shown::deleted(store::delete(setup, store, lens, line::number(text, 1)));
 }
 
-fn addresses(setup: Setup, bytes: &[u8], lens: &[u16]) {
-    about(b"address 0, the empty packet", setup, bytes, lens, 0);
-    about(b"address 1, the full slot", setup, bytes, lens, 1);
-    about(b"address 257, slot 1", setup, bytes, lens, 257);
-    about(b"address 65537, free", setup, bytes, lens, 65537);
-    about(
-        b"address 16842753, slot 1 of subpool 1, free",
-        setup,
-        bytes,
-        lens,
-        16842753,
-    );
-    about(b"address 2, no such slot", setup, bytes, lens, 2);
-    about(
-        b"address 196608, no such subpool",
-        setup,
-        bytes,
-        lens,
-        196608,
-    );
-    about(
-        b"INVALID_ADDR",
-        setup,
-        bytes,
-        lens,
-        StaticPoolAddr::INVALID_ADDR,
-    );
+// The part that is lent for changes gets bytes 5.
+fn modify(setup: Setup, text: &[u8], store: &mut [u8], lens: &[u16]) {
+    let addr = line::number(text, 1);
+    out::say(b": ");
+    shown::length(store::modify(setup, store, lens, addr));
+    let part = store::modify_part(setup, store, lens, addr);
+    out::number(b", lent ", part.len() as u64);
+    set(5, part);
 }
 
-fn read_into(text: &[u8], setup: Setup, bytes: &[u8], lens: &[u16], addr: u64, room: usize)
-    requires { ⌜ room ≤ 17 ⌝ }
-{
-    let mut buf = [0u8; 17];
-    show::length(
-        text,
-        store::read(setup, bytes, lens, addr, &mut buf[0..room]),
-    );
-    show::say(b"\n");
+fn set(v: u8, part: &mut [u8]) {
+    let n = part.len();
+    let mut i: usize = 0;
+    while i < n {
+        part[i] = v;
+        i += 1;
+    }
 }
 
-fn buffers(setup: Setup, bytes: &[u8], lens: &[u16]) {
-    read_into(b"read 16 bytes into 17: ", setup, bytes, lens, 1, 17);
-    read_into(b"read 16 bytes into 16: ", setup, bytes, lens, 1, 16);
-    read_into(b"read 16 bytes into 15: ", setup, bytes, lens, 1, 15);
-    read_into(b"read 16 bytes into 0: ", setup, bytes, lens, 1, 0);
-    read_into(b"read 0 bytes into 0: ", setup, bytes, lens, 0, 0);
+fn set_lengths(v: u16, lens: &mut [u16]) {
+    let n = lens.len();
+    let mut i: usize = 0;
+    while i < n {
+        lens[i] = v;
+        i += 1;
+    }
 }
 
-fn deletions(setup: Setup, bytes: &mut [u8], lens: &mut [u16]) {
-    show::deleted(b"delete 0: ", store::delete(setup, bytes, lens, 0));
-    show::deleted(b", again ", store::delete(setup, bytes, lens, 0));
-    show::deleted(b", 65537 ", store::delete(setup, bytes, lens, 65537));
-}
-
-fn more_deletions(setup: Setup, bytes: &mut [u8], lens: &mut [u16]) {
-    show::deleted(b", 2 ", store::delete(setup, bytes, lens, 2));
-    show::deleted(b", 196608 ", store::delete(setup, bytes, lens, 196608));
-    show::say(b"\n");
-}
-
-fn filled(setup: Setup, bytes: &mut [u8], lens: &mut [u16]) {
-    packets(setup, bytes, lens);
-    larger(setup, bytes, lens);
-    addresses(setup, bytes, lens);
-    buffers(setup, bytes, lens);
-}
-
-fn emptied(setup: Setup, bytes: &mut [u8], lens: &mut [u16]) {
-    deletions(setup, bytes, lens);
-    more_deletions(setup, bytes, lens);
-    about(b"address 0, deleted", setup, bytes, lens, 0);
-}
-
-fn all(setup: Setup, bytes: &mut [u8], lens: &mut [u16]) {
-    filled(setup, bytes, lens);
-    emptied(setup, bytes, lens);
-}
-
-// Slots 2, 2, 1 of 16, 32, 64 bytes: 160 bytes and 5 rows.
-pub fn run() {
-    let setup = stores::three(3, [16, 32, 64], [2, 2, 1], false);
-    let mut bytes = [0u8; 160];
-    let mut lens = [65535u16; 5];
-    all(setup, &mut bytes, &mut lens);
+fn set_length(text: &[u8], lens: &mut [u16]) {
+    let i = line::index(text, 1);
+    if i < lens.len() {
+        lens[i] = line::short(text, 3);
+    }
 }

@@ -1,20 +1,52 @@
-// The worked cases of the static store, through its public calls: what is done, and the number and values that come back.
-mod addresses;
+// The worked cases of the static store, through its public calls: each line of the input is done, and written out with what came back.
+mod bench;
 mod calls;
+mod command;
 mod damage;
-mod full;
-mod setups;
-mod show;
-mod spilling;
-mod stores;
-mod tails;
+mod shows;
+
+use bench::Bench;
+use text::line;
+use text::out;
 
 fn main() {
-    addresses::run();
-    spilling::run();
-    setups::run();
-    damage::run();
-    calls::run();
-    full::run();
-    tails::run();
+    let mut text = io::large_buffer();
+    let n = io::read_full(libc::STDIN_FILENO, &mut text);
+    all(&text[..n]);
+}
+
+// Room for the largest store and the largest table.
+fn all(text: &[u8]) {
+    let mut store = bench::room();
+    let mut lens = [65535u16; 2048];
+    let mut buf = [0u8; 64];
+    let mut b = bench::none();
+    let mut at: usize = 0;
+    while at < text.len() {
+        let end = line::end(text, at, b'\n');
+        let next = line::next(text, end);
+        b = one(b, &text[at..end], &mut store, &mut lens, &mut buf);
+        at = next;
+    }
+}
+
+fn one(b: Bench, text: &[u8], store: &mut [u8], lens: &mut [u16], buf: &mut [u8]) -> Bench {
+    let k = command::of(text);
+    let next = bench::given(b, k, text);
+    out::say(text);
+    done(next, k, text, store, lens, buf);
+    out::say(b"\n");
+    next
+}
+
+// On as much of the store and the lengths as is lent.
+fn done(b: Bench, k: usize, text: &[u8], store: &mut [u8], lens: &mut [u16], buf: &mut [u8]) {
+    let s = line::least(b.room, store.len());
+    let l = line::least(b.lens, lens.len());
+    let setup = b.setup;
+    if k < command::ASKING {
+        calls::run(setup, k, text, &mut store[0..s], &mut lens[0..l], buf);
+        return;
+    }
+    shows::run(setup, k, text, &store[0..s], &lens[0..l], buf);
 }

@@ -1,68 +1,48 @@
-// Check codes (document 01, module 1).
-use crate::print;
-ghost use Prim.Native.Nat.{_<_};
+// Check codes (document 01, module 1), and numbers of several bytes at every width that packets, stamps and logs have.
+use text::line;
+use text::out;
+ghost use Prim.Native.Nat.{_+_, _≤_};
+ghost use lib.ListN.{length};
 
-pub fn lines() {
-    published();
-    worked();
-    every_byte();
-}
-
-fn published() {
-    line(b"\x00\x00", b"ECSS-E-70-41A annex A");
-    line(b"\x00\x00\x00", b"ECSS-E-70-41A annex A");
-    line(b"\xAB\xCD\xEF\x01", b"ECSS-E-70-41A annex A");
-    line(b"\x14\x56\xF8\x9A\x00\x01", b"ECSS-E-70-41A annex A");
-}
-
-fn worked() {
-    line(b"", b"nothing");
-    line(b"123456789", b"the ASCII digits 1 to 9");
-    line(
-        b"\x18\x02\xC0\x11\x00\x06\x2F\x11\x01\x00\x00",
-        b"P before its check bytes",
-    );
-    line(
-        b"\x18\x02\xC0\x11\x00\x06\x2F\x11\x01\x00\x00\xDD\xB5",
-        b"P with its check bytes",
-    );
-}
-
-fn line(bytes: &[u8], what: &[u8]) {
-    print::text(b"check code of ");
-    print::bytes(bytes);
-    print::case(what);
-    print::hex_u16(check_code::of(bytes));
-    print::end();
-}
-
-// Each byte alone, sixteen to a line: every entry of the table is looked up once.
-fn every_byte() {
-    let mut high: u8 = 0;
-    while high < 16 {
-        row(high);
-        high += 1;
+// The code of the bytes from word 3 on; or the codes of sixteen bytes from that one on, each alone.
+pub fn code(text: &[u8]) {
+    let mut bytes = [0u8; 64];
+    let n = line::bytes(text, 3, &mut bytes);
+    if line::which(text, 1, b"codes") == 0 {
+        row(bytes[0]);
+        return;
     }
+    out::say(b" ");
+    out::short(check_code::of(&bytes[..n]));
 }
 
-fn row(high: u8)
-    requires { ⌜ high < 16 ⌝ }
-{
-    print::text(b"check codes of ");
-    print::hex(high * 16);
-    print::text(b" to ");
-    print::hex(high * 16 + 15);
-    print::text(b", each alone:");
-    let mut low: u8 = 0;
-    while low < 16 {
-        alone(high * 16 + low);
-        low += 1;
+fn row(from: u8) {
+    let mut i: u8 = 0;
+    while i < 16 {
+        alone(std::num::wrapping_add_u8(from, i));
+        i += 1;
     }
-    print::end();
 }
 
 fn alone(b: u8) {
     let one = [b];
-    print::text(b" ");
-    print::hex_u16(check_code::of(&one));
+    out::say(b" ");
+    out::short(check_code::of(&one));
+}
+
+// Number, place, width: the number written among ten bytes 5A, all ten afterwards, and the number read back.
+pub fn number(text: &[u8]) {
+    let width = line::part(text, 5, 8);
+    let at = line::part(text, 3, 10 - width);
+    let mut bytes = [0x5Au8; 10];
+    words::write(&mut bytes, at, width, line::number(text, 1));
+    written(&bytes, at, width);
+}
+
+fn written(bytes: &[u8], at: usize, width: usize)
+    requires { ⌜ (at + width ≤ length (now bytes)) × (width ≤ 8) ⌝ }
+{
+    out::say(b" ");
+    out::bytes(bytes);
+    out::number(b", read back ", words::read(bytes, at, width));
 }

@@ -1,69 +1,33 @@
-// Times and margins at the ends of their ranges (document 01, "Sizes").
-use crate::print;
-use time::Margin;
+// Times and margins at the ends of their ranges (document 01, "Sizes"), and the order of two times.
+use text::line;
+use text::out;
 use time::UnixTime;
 ghost use Rattle.time.specs.Time.{InRange};
 
-pub fn lines() {
-    around_0();
-    first();
-    last();
-    margins();
-    margin_ends();
+pub fn instant(text: &[u8], t: UnixTime) {
+    out::signed(text, t.secs);
+    out::number(b" s ", t.nanos as u64);
+    out::say(b" ns");
 }
 
-fn around_0() {
-    time(0, 0);
-    time(-1, 0);
-    time(-1, 999999999);
-    time(0, 1000000000);
-    time(0, 4294967295);
+pub fn span(text: &[u8], secs: u64, nanos: u32) {
+    out::number(text, secs);
+    out::number(b" s ", nanos as u64);
+    out::say(b" ns");
 }
 
-fn first() {
-    time(-4398046511104, 0);
-    time(-4398046511104, 999999999);
-    time(-4398046511104, 1000000000);
-    time(-4398046511105, 0);
-    time(-4398046511105, 999999999);
-    time(-9223372036854775808, 0);
-}
-
-fn last() {
-    time(4398046511104, 0);
-    time(4398046511104, 999999999);
-    time(4398046511104, 1000000000);
-    time(4398046511105, 0);
-    time(9223372036854775807, 0);
-}
-
-fn margins() {
-    margin(0, 0);
-    margin(0, 999999999);
-    margin(0, 1000000000);
-}
-
-fn margin_ends() {
-    margin(2147483648, 0);
-    margin(2147483648, 999999999);
-    margin(2147483648, 1000000000);
-    margin(2147483649, 0);
-    margin(18446744073709551615, 4294967295);
-}
-
-fn time(secs: i64, nanos: u32) {
-    let t = UnixTime {
-        secs: secs,
-        nanos: nanos,
-    };
-    print::text(b"time ");
-    print::instant(secs, nanos);
+// One time; or two, the first against the second.
+pub fn time(text: &[u8]) {
+    let t = line::time_of(text, 1, 3);
     if t.in_range() {
-        there_and_back(t);
+        if line::which(text, 5, b"against") == 0 {
+            against(t, line::time_of(text, 6, 8));
+        } else {
+            there_and_back(t);
+        }
     } else {
-        print::text(b": out of range");
+        out::say(b" out of range");
     }
-    print::end();
 }
 
 // The time counted from -2^42 s, and from there back.
@@ -71,24 +35,34 @@ fn there_and_back(t: UnixTime)
     requires { ⌜ InRange t ⌝ }
 {
     let m = t.to_moment();
-    print::text(b": in range, moment ");
-    print::span(m.secs, m.nanos);
-    print::text(b", back ");
-    let back = m.to_unix_time();
-    print::instant(back.secs, back.nanos);
+    span(b" in range, moment ", m.secs, m.nanos);
+    instant(b", back ", m.to_unix_time());
 }
 
-fn margin(secs: u64, nanos: u32) {
-    let m = Margin {
-        secs: secs,
-        nanos: nanos,
-    };
-    print::text(b"margin ");
-    print::span(secs, nanos);
-    if m.in_range() {
-        print::text(b": in range");
-    } else {
-        print::text(b": out of range");
+fn against(a: UnixTime, b: UnixTime)
+    requires { ⌜ InRange a ⌝ }
+{
+    if b.in_range() {
+        ordered(a, b);
     }
-    print::end();
+}
+
+fn ordered(a: UnixTime, b: UnixTime)
+    requires { ⌜ InRange a ⌝ }
+    requires { ⌜ InRange b ⌝ }
+{
+    if a.to_moment().is_before(b.to_moment()) {
+        out::say(b" before");
+    } else {
+        out::say(b" not before");
+    }
+}
+
+pub fn margin(text: &[u8]) {
+    let m = line::margin_of(text, 1, 3);
+    if m.in_range() {
+        out::say(b" in range");
+    } else {
+        out::say(b" out of range");
+    }
 }

@@ -1,15 +1,15 @@
--- `vectors::codes::row` is safe and ends: the measure is the bytes of the row that are left.
--- Assumes nothing.
+-- `vectors::codes::row` meets its contract.
 use Prim.Native.Nat.{_-_}
 use borrow.Author.Needs.{needs}
+use native.Mathlib.Omega.{arith}
 use Rattle.vectors.proofs.codes.row.Statement.{statement}
 use Rattle.vectors.proofs.codes.row.Tie as tie
 
 abbrev Inv-loop : tie.InvT-loop
-Inv-loop high low₀ low = Unit {0}
+Inv-loop from i₀ i = Unit {0}
 
 abbrev μ-loop : tie.MeasureT-loop
-μ-loop high low₀ low = 16 - low
+μ-loop from i₀ i = 16 - i
 
 pub row-spec : {M : Type 1} → statement M
 row-spec =
@@ -19,21 +19,8 @@ row-spec =
     μ-loop
     (λ c. search needs)
     (λ c κs. search needs)
-    (λ c. search needs)
-    (λ c κs. search needs)
-    (λ c. search needs)
-    (λ c κs. search needs)
-    (λ c. search needs)
-    (λ c. search needs)
-    (λ c κs. search needs)
-    (λ c. search needs)
     (λ c κs. search needs)
     (λ c. search needs)
     (λ c. search needs)
     (λ c. search needs)
-    (λ c κs. search needs)
-    (λ c. search needs)
-    (λ c. search needs)
-    (λ c. search needs)
-    (λ c κs. search needs)
     (λ c. search needs))

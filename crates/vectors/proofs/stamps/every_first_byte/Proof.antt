@@ -1,15 +1,15 @@
--- `vectors::stamps::every_first_byte` is safe and ends: the measure is the first bytes that are left.
--- Assumes nothing.
+-- `vectors::stamps::every_first_byte` meets its contract.
 use Prim.Native.Nat.{_-_}
 use borrow.Author.Needs.{needs}
+use native.Mathlib.Omega.{arith}
 use Rattle.vectors.proofs.stamps.every_first_byte.Statement.{statement}
 use Rattle.vectors.proofs.stamps.every_first_byte.Tie as tie
 
 abbrev Inv-loop : tie.InvT-loop
-Inv-loop form₀ t3 form = Unit {0}
+Inv-loop form₀ t2 form = Unit {0}
 
 abbrev μ-loop : tie.MeasureT-loop
-μ-loop form₀ t3 form = 256 - form
+μ-loop form₀ t2 form = 256 - form
 
 pub every-first-byte-spec : {M : Type 1} → statement M
 every-first-byte-spec =
@@ -18,8 +18,6 @@ every-first-byte-spec =
     Inv-loop
     μ-loop
     (λ c. search needs)
-    (λ c κs. search needs)
-    (λ c. search needs)
     (λ c. search needs)
     (λ c κs. search needs)
     (λ c. search needs)
@@ -29,5 +27,4 @@ every-first-byte-spec =
     (λ c. search needs)
     (λ c. search needs)
     (λ c. search needs)
-    (λ c κs. search needs)
     (λ c. search needs))

@@ -1,0 +1,2 @@
+-- Laws of digits.
+pub mod Laws

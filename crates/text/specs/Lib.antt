@@ -1,0 +1,2 @@
+-- What words of digits are.
+pub mod Digits
