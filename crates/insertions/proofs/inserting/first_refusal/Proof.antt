@@ -1,9 +1,6 @@
 -- `insertions::inserting::first_refusal` meets its contract.
 -- Assumes nothing.
-use mathlib.Core.Path.{_≡_, ap, sym}
 use borrow.Author.Needs.{needs}
-use Rattle.record.specs.declared.ScheduleRefusal.{ScheduleRefusal}
-use Rattle.store.specs.declared.Added.{Added}
 use Rattle.insertions.specs.Inside.{firstRefusal}
 use Rattle.insertions.proofs.inserting.first_refusal.Statement.{statement}
 use Rattle.insertions.proofs.inserting.first_refusal.Tie as tie
