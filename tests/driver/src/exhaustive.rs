@@ -51,18 +51,27 @@ fn alphabet() -> Vec<Call> {
     ]
 }
 
-/// All sequences of `depth` calls; those with a call outside the domain lose that call.
-pub fn all(subject: &dyn Subject, depth: u32, counts: &mut Counts) -> Result<(), String> {
+/// Every `step`-th of all sequences of `depth` calls.
+pub fn sequences(depth: u32, step: usize) -> impl Iterator<Item = (Start, Vec<Call>)> {
     let alphabet = alphabet();
     let base = alphabet.len();
-    for start in starts() {
-        for number in 0..base.pow(depth) {
-            let digit = |k: u32| alphabet[number / base.pow(k) % base].clone();
-            let mut calls = (0..depth).map(digit);
-            let next = |_: &mut Side| calls.next();
-            let result = sequence(subject, &start, counts, next, |_, _| ());
-            result.map_err(|(calls, _)| report(subject, &start, &calls))?;
-        }
+    let of_start = move |start: Start| {
+        let alphabet = alphabet.clone();
+        let letters = move |number: usize| {
+            (0..depth).map(|k| alphabet[number / base.pow(k) % base].clone()).collect()
+        };
+        (0..base.pow(depth)).step_by(step).map(move |n| (start.clone(), letters(n)))
+    };
+    starts().into_iter().flat_map(of_start)
+}
+
+/// All sequences of `depth` calls; those with a call outside the domain lose that call.
+pub fn all(subject: &dyn Subject, depth: u32, counts: &mut Counts) -> Result<(), String> {
+    for (start, calls) in sequences(depth, 1) {
+        let mut calls = calls.into_iter();
+        let next = |_: &mut Side| calls.next();
+        let result = sequence(subject, &start, counts, next, |_, _| ());
+        result.map_err(|(calls, _)| report(subject, &start, &calls))?;
     }
     Ok(())
 }
