@@ -50,16 +50,30 @@ fn other_form(call: &Call, given: &Given) -> Option<String> {
     }
 }
 
-/// A drain shows what a free slot holds: "0" stands for zeros alone.
+/// What a drain shows of the free slots, in the order of their addresses; "0" stands for zeros alone.
 fn free_slots(answer: &str) -> String {
-    let slot = |word: &str| match word.split_once(':') {
-        Some((address, bytes)) if bytes.bytes().all(|b| b == b'0') => format!("{address}:0"),
-        _ => word.into(),
+    let slot = |word: &str| {
+        let (address, bytes) = word.split_once(':').expect("an address and bytes");
+        let zeros = bytes.bytes().all(|b| b == b'0');
+        (address.parse().expect("an address"), if zeros { "0".into() } else { bytes.into() })
     };
-    let slots: Vec<String> = answer.split_whitespace().map(slot).collect();
-    match slots.is_empty() {
-        true => "none".into(),
-        false => slots.join(" "),
+    let mut slots: Vec<(u64, String)> = answer.split_whitespace().map(slot).collect();
+    slots.sort();
+    let words: Vec<String> = slots.iter().map(|(a, bytes)| format!("{a}:{bytes}")).collect();
+    match words.is_empty() {
+        true => "NONE".into(),
+        false => words.join(" "),
+    }
+}
+
+/// Bytes in capitals, as document 01 writes them: the only letters behind an insertion's first word.
+fn in_capitals(request: &str) -> String {
+    let (first, rest) = request.split_once(' ').unwrap_or((request, ""));
+    match first {
+        "add" | "wrapped" | "wrappedl" | "unwrapped" | "unwrappedt" => {
+            format!("{first} {}", rest.to_uppercase())
+        }
+        _ => request.into(),
     }
 }
 
@@ -74,7 +88,7 @@ impl Requests {
             0 => other_form(call, given),
             _ => None,
         };
-        self.lines.push(form.unwrap_or_else(|| line(start, call)));
+        self.lines.push(in_capitals(&form.unwrap_or_else(|| line(start, call))));
         self.late = given.answer.number == 13;
     }
 
@@ -86,7 +100,7 @@ impl Requests {
         let mut original = Lines::default();
         let answer = |q: &String| match q.as_str() {
             "drain" => free_slots(&original.answer(q)),
-            _ => original.answer(q),
+            _ => original.answer(q).to_uppercase(),
         };
         let answers: Vec<String> = self.lines.iter().map(answer).collect();
         self.lines.iter().zip(answers).map(|(q, a)| format!("{q} => {a}")).collect()

@@ -1,0 +1,61 @@
+// How often each answer was compared, by call and document 01's number, and how many lines differ.
+use crate::kinds;
+use text::line;
+use text::out;
+ghost use Prim.Native.Nat.{_<_};
+
+// A row of 21 numbers for each call, one for all of them, and behind them the lines and the differences.
+pub const LINES: usize = 546;
+
+pub const DIFFERENT: usize = 547;
+
+pub const CELLS: usize = 548;
+
+pub fn count(cells: &mut [u64; CELLS], i: usize)
+    requires { ⌜ i < 548 ⌝ }
+{
+    cells[i] = std::num::wrapping_add_u64(cells[i], 1);
+}
+
+fn cell(k: usize, number: u32) -> usize
+    ensures { λ r. ⌜ r < 546 ⌝ }
+{
+    if k > 25 {
+        return 0;
+    }
+    k * 21 + (number % 21) as usize
+}
+
+pub fn answered(cells: &mut [u64; CELLS], k: usize, number: u32) {
+    count(cells, cell(k, number));
+    if k < kinds::DUMP {
+        count(cells, cell(25, number));
+    }
+}
+
+pub fn show(cells: &[u64; CELLS]) {
+    let mut i: usize = 0;
+    while i < LINES {
+        if i % 21 == 0 {
+            name(i / 21);
+        }
+        number(i % 21, cells[i]);
+        i += 1;
+    }
+    out::number(b"\nsequences ", cells[0]);
+    out::number(b"\nlines ", cells[LINES]);
+    out::number(b"\ndifferent ", cells[DIFFERENT]);
+    out::say(b"\n");
+}
+
+fn name(k: usize) {
+    let names = b"new\nclock\nenable\ndisable\nnum\nwrapped\nwrappedl\nunwrapped\nunwrappedt\nstored\nwindow\ndelwin\ndelall\nreset\ndelid\ndelidp\nrelease\nadd\nread\nmodify\ndelete\nhas\nlen\ndump\ndrain\nall";
+    out::say(names);
+}
+
+fn number(number: usize, times: u64) {
+    if times > 0 {
+        out::number(b" ", number as u64);
+        out::number(b":", times);
+    }
+}
