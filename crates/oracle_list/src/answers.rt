@@ -5,6 +5,7 @@ use crate::said;
 use crate::slots;
 use crate::store_asks;
 use text::line;
+ghost use Prim.Native.Nat.{_≤_};
 
 pub fn told(
     k: usize,
@@ -31,7 +32,9 @@ pub fn told(
 }
 
 // How many values a refusal carries.
-fn carried(number: u64) -> usize {
+fn carried(number: u64) -> usize
+    ensures { λ r. ⌜ r ≤ 6 ⌝ }
+{
     match number {
         5 | 6 | 11 | 12 | 16 | 17 | 18 | 20 => 1,
         19 => 2,

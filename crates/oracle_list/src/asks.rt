@@ -32,6 +32,9 @@ pub fn ask(
     if k < kinds::RELEASE {
         return delete(k, text, setup, record, store, lens, rows, answer);
     }
+    if k >= kinds::DUMP {
+        return 0;
+    }
     if k == kinds::RELEASE {
         return release(text, setup, record, store, lens, rows, bytes, answer);
     }

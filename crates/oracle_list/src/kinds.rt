@@ -1,6 +1,4 @@
-// What a line asks, by its first word: the original's calls, then what it shows of its whole state.
-use text::line;
-
+// What a line asks, by the place of its first word among the names that `main` has: the original's calls, then what it shows of its whole state.
 pub const NEW: usize = 0;
 
 pub const CLOCK: usize = 1;
@@ -46,11 +44,3 @@ pub const DUMP: usize = 23;
 pub const DRAIN: usize = 24;
 
 pub const UNKNOWN: usize = 25;
-
-pub fn kind(text: &[u8]) -> usize {
-    line::which(
-        text,
-        0,
-        b"new clock enable disable num wrapped wrappedl unwrapped unwrappedt stored window delwin delall reset delid delidp release add read modify delete has len dump drain",
-    )
-}

@@ -73,15 +73,15 @@ pub fn released(out: &mut [u8], at: usize, log: &[u8]) -> usize {
     let mut offset: usize = 8;
     let mut left: usize = n;
     while left > 0 {
-        to = unless(place(log, offset) == from, out, to, b" OFFSET");
+        to = unless(place(log, offset) == from, out, to, b'O');
         offset = next(offset, 4);
         let end = last_or(left, total, place(log, offset));
         to = one(out, to, log, from, end);
         from = end;
         left -= 1;
     }
-    to = unless(from == total, out, to, b" TOTAL");
-    unless(untouched(log, total), out, to, b" BEHIND")
+    to = unless(from == total, out, to, b'T');
+    unless(untouched(log, total), out, to, b'B')
 }
 
 fn last_or(left: usize, total: usize, offset: usize) -> usize {
@@ -91,11 +91,12 @@ fn last_or(left: usize, total: usize, offset: usize) -> usize {
     offset
 }
 
-fn unless(fine: bool, out: &mut [u8], at: usize, fault: &[u8]) -> usize {
+// A letter where it is not so: O for an offset, T for the total, B for what is behind.
+fn unless(fine: bool, out: &mut [u8], at: usize, fault: u8) -> usize {
     if fine {
         return at;
     }
-    said::text(out, at, fault)
+    said::byte(out, at, fault)
 }
 
 // Flag, request ID, address, packet.
@@ -105,7 +106,14 @@ fn one(out: &mut [u8], at: usize, log: &[u8], from: usize, end: usize) -> usize 
     let id = said::number(out, flag, b' ', big(log, next(from, 1), 8));
     let address = said::number(out, id, b' ', big(log, next(from, 9), 8));
     let packet = next(from, 17);
-    said::part(out, address, b' ', log, packet, std::num::wrapping_sub_usize(end, packet))
+    said::part(
+        out,
+        address,
+        b' ',
+        log,
+        packet,
+        std::num::wrapping_sub_usize(end, packet),
+    )
 }
 
 fn untouched(log: &[u8], from: usize) -> bool {

@@ -72,20 +72,38 @@ pub fn part(out: &mut [u8], at: usize, mark: u8, s: &[u8], from: usize, n: usize
     hex(out, at, mark, &s[from..end])
 }
 
-// Whether the first bytes of a buffer are a text.
-pub fn is(out: &[u8], n: usize, s: &[u8]) -> bool {
-    if n != s.len() {
+// Whether a text is, from a place on, what the first bytes of a buffer are.
+pub fn ends(text: &[u8], at: usize, out: &[u8], n: usize) -> bool {
+    if at > text.len() {
+        return false;
+    }
+    if n != text.len() - at {
         return false;
     }
     if n > out.len() {
         return false;
     }
+    same(&text[at..], &out[0..n])
+}
+
+fn same(a: &[u8], b: &[u8]) -> bool {
+    if a.len() != b.len() {
+        return false;
+    }
     let mut i: usize = 0;
-    while i < n {
-        if out[i] != s[i] {
+    while i < a.len() {
+        if a[i] != b[i] {
             return false;
         }
         i += 1;
     }
     true
+}
+
+// The first bytes of a buffer, as a line.
+pub fn shown(out: &[u8], n: usize) {
+    if n <= out.len() {
+        text::out::say(&out[0..n]);
+    }
+    text::out::say(b"\n");
 }

@@ -28,7 +28,16 @@ pub fn all(
     let mut base: u64 = 0;
     let mut i: usize = 3;
     while i < setup.len() {
-        p = pool(out, p, base, setup[i], word(setup, next(i, 1)), store, lens, free);
+        p = pool(
+            out,
+            p,
+            base,
+            setup[i],
+            word(setup, next(i, 1)),
+            store,
+            lens,
+            free,
+        );
         base = std::num::wrapping_add_u64(base, 65536);
         i += 2;
     }

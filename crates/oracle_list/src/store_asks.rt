@@ -23,7 +23,15 @@ pub fn ask(
         return store_calls::silotwist_store_delete(setup, store, lens, address, answer);
     }
     if k == kinds::READ {
-        return read(setup, store, lens, address, line::index(text, 2), bytes, answer);
+        return read(
+            setup,
+            store,
+            lens,
+            address,
+            line::index(text, 2),
+            bytes,
+            answer,
+        );
     }
     if k == kinds::MODIFY {
         return modify(text, setup, store, lens, address, answer);

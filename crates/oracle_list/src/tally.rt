@@ -33,24 +33,31 @@ pub fn answered(cells: &mut [u64; CELLS], k: usize, number: u32) {
     }
 }
 
-pub fn show(cells: &[u64; CELLS]) {
-    let mut i: usize = 0;
-    while i < LINES {
-        if i % 21 == 0 {
-            name(i / 21);
-        }
-        number(i % 21, cells[i]);
-        i += 1;
-    }
+pub fn show(cells: &[u64; CELLS], names: &[u8]) {
+    table(cells, names);
     out::number(b"\nsequences ", cells[0]);
     out::number(b"\nlines ", cells[LINES]);
     out::number(b"\ndifferent ", cells[DIFFERENT]);
     out::say(b"\n");
 }
 
-fn name(k: usize) {
-    let names = b"new\nclock\nenable\ndisable\nnum\nwrapped\nwrappedl\nunwrapped\nunwrappedt\nstored\nwindow\ndelwin\ndelall\nreset\ndelid\ndelidp\nrelease\nadd\nread\nmodify\ndelete\nhas\nlen\ndump\ndrain\nall";
-    out::say(names);
+fn table(cells: &[u64; CELLS], names: &[u8]) {
+    let mut i: usize = 0;
+    while i < LINES {
+        if i % 21 == 0 {
+            name(names, i / 21);
+        }
+        number(i % 21, cells[i]);
+        i += 1;
+    }
+}
+
+// Each in a line of its own.
+fn name(names: &[u8], k: usize) {
+    let at = line::word(names, k);
+    let end = line::end(names, at, b' ');
+    out::say(b"\n");
+    out::say(&names[at..end]);
 }
 
 fn number(number: usize, times: u64) {
