@@ -27,9 +27,11 @@ fn cell(k: usize, number: u32) -> usize
 }
 
 pub fn answered(cells: &mut [u64; CELLS], k: usize, number: u32) {
-    count(cells, cell(k, number));
+    if k < kinds::UNKNOWN {
+        count(cells, cell(k, number));
+    }
     if k < kinds::DUMP {
-        count(cells, cell(25, number));
+        count(cells, cell(kinds::UNKNOWN, number));
     }
 }
 

@@ -1,7 +1,7 @@
 -- `oracle_list::room` meets its contract.
+use Prim.Native.Nat.{ℕ}
 use lib.ListN.{length-replicate}
 use mathlib.Core.Path.{sym}
-use Prim.Native.Nat.{ℕ}
 use Rattle.oracle_list.proofs.room.Statement.{statement}
 use Rattle.oracle_list.proofs.room.Tie as tie
 
