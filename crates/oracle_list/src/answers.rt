@@ -43,6 +43,9 @@ fn carried(number: u64) -> usize
     }
 }
 
+// num, add, read, modify, has and len: one; insertions of a packet, window and release: two; deletions of a window and reset: three
+// and what the last refusal carries; deletions by ID: whether there was a match, and the address, or whether the packet was
+// there and the refusal if not.
 fn count(k: usize, number: u32, answer: &[u64; 8]) -> usize {
     if number > 0 {
         return carried(number as u64);

@@ -8,6 +8,7 @@ mod slots;
 mod store_asks;
 mod tally;
 
+use tally::CELLS;
 use text::line;
 use text::out;
 ghost use mathlib.Core.Path.{_≡_};
@@ -21,7 +22,7 @@ fn main() {
     if n == 2097152 {
         out::say(b"the list is longer than there is room for\n");
     }
-    let mut cells = [0u64; 548];
+    let mut cells = [0u64; CELLS];
     let names =
         b"new clock enable disable num wrapped wrappedl unwrapped unwrappedt stored window delwin delall reset delid delidp release add read modify delete has len dump drain all";
     replay(&text[..n], names, &mut cells);
@@ -36,7 +37,7 @@ fn room() -> [u8; 2097152]
 }
 
 // Tables with room for every setup of the list. They are never cleared: each sequence's fresh start finds what the one before left.
-fn replay(text: &[u8], names: &[u8], cells: &mut [u64; 548]) {
+fn replay(text: &[u8], names: &[u8], cells: &mut [u64; CELLS]) {
     let mut setup = [0u64; 19];
     let mut record = [77u64; 6];
     let mut store = [238u8; 8192];
@@ -120,7 +121,7 @@ fn one(
     rows: &mut [u64],
     bytes: &mut [u8],
     said: &mut [u8],
-    cells: &mut [u64; 548],
+    cells: &mut [u64; CELLS],
 ) {
     let arrow = line::end(text, 0, b'=');
     let k = line::which(text, 0, names);
@@ -151,7 +152,7 @@ fn answer(
     rows: &mut [u64],
     bytes: &mut [u8],
     said: &mut [u8],
-    cells: &mut [u64; 548],
+    cells: &mut [u64; CELLS],
 ) -> usize {
     let mut words = [0u64; 8];
     let w = setup_words(setup);
@@ -183,7 +184,7 @@ fn answer(
 }
 
 // A line whose first word is none of the calls differs too.
-fn judge(k: usize, text: &[u8], arrow: usize, said: &[u8], n: usize, cells: &mut [u64; 548]) {
+fn judge(k: usize, text: &[u8], arrow: usize, said: &[u8], n: usize, cells: &mut [u64; CELLS]) {
     tally::count(cells, tally::LINES);
     if k < kinds::UNKNOWN {
         if said::ends(text, arrow, said, n) {

@@ -53,16 +53,51 @@ fn alphabet() -> Vec<Call> {
 
 /// Every `step`-th of all sequences of `depth` calls.
 pub fn sequences(depth: u32, step: usize) -> impl Iterator<Item = (Start, Vec<Call>)> {
-    let alphabet = alphabet();
-    let base = alphabet.len();
-    let of_start = move |start: Start| {
-        let alphabet = alphabet.clone();
-        let letters = move |number: usize| {
-            (0..depth).map(|k| alphabet[number / base.pow(k) % base].clone()).collect()
-        };
-        (0..base.pow(depth)).step_by(step).map(move |n| (start.clone(), letters(n)))
-    };
-    starts().into_iter().flat_map(of_start)
+    starts().into_iter().flat_map(move |start| words(start, alphabet(), depth, step))
+}
+
+/// Two packets at equal or different times, what may come between, the clock around each time, and a release: every
+/// choice.
+pub fn releases() -> impl Iterator<Item = (Start, Vec<Call>)> {
+    let (p, q, id) = (ping(1, 1), ping(1, 2), 1 << 16 | 1);
+    let seconds = [
+        Call::Unwrapped((1, 0), p.clone()),
+        Call::Unwrapped((1, 0), q.clone()),
+        Call::Unwrapped((2, 0), p.clone()),
+        Call::Unwrapped((2, 0), q),
+    ];
+    let between = [
+        Call::Count,
+        Call::Disable,
+        Call::DeleteById(id),
+        Call::DeleteByIdKeep(id),
+        Call::Part(0, 7),
+    ];
+    let clocks = [(0, 999_999_999), (1, 0), (1, 1), (1, 999_999_999), (2, 0)];
+    let mut all = Vec::new();
+    for second in &seconds {
+        for other in &between {
+            for clock in clocks {
+                for delete in [true, false] {
+                    let first = Call::Unwrapped((1, 0), p.clone());
+                    let tick = Call::Tick { log: 200, limit: 9, delete };
+                    let calls = [first, second.clone(), other.clone(), Call::SetClock(clock), tick];
+                    all.push((starts().swap_remove(1), calls.to_vec()));
+                }
+            }
+        }
+    }
+    all.into_iter()
+}
+
+fn words(
+    start: Start, letters: Vec<Call>, depth: u32, step: usize,
+) -> impl Iterator<Item = (Start, Vec<Call>)> {
+    let base = letters.len();
+    (0..base.pow(depth)).step_by(step).map(move |number| {
+        let letter = |k: u32| letters[number / base.pow(k) % base].clone();
+        (start.clone(), (0..depth).map(letter).collect())
+    })
 }
 
 /// All sequences of `depth` calls; those with a call outside the domain lose that call.

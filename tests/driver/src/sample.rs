@@ -1,5 +1,6 @@
 //! The fixed sample of the original's answers, crates/oracle_list/stdin: all sequences of one and two calls over the
-//! small alphabet, every 23rd of three, three at the largest sizes, and random ones at the boundaries of small setups.
+//! small alphabet, every 23rd of three, releases around the times of two entries, three at the largest sizes, and random
+//! ones at the boundaries of small setups.
 use crate::against::{report, sequence, Counts};
 use crate::call::Call;
 use crate::domain::sequence_from;
@@ -194,6 +195,7 @@ pub fn sample() -> Result<Sample, String> {
     sample.fixed(exhaustive::sequences(1, 1))?;
     sample.fixed(exhaustive::sequences(2, 1))?;
     sample.fixed(exhaustive::sequences(3, STEP))?;
+    sample.fixed(exhaustive::releases())?;
     sample.fixed(largest().into_iter())?;
     let mut seeds = Prng::new(SEED);
     for _ in 0..RANDOM {
