@@ -245,19 +245,27 @@ fn before((secs, nanos): Instant) -> Instant {
 /// One random sequence against the original; an error is a report.
 pub fn random_sequence(
     subject: &dyn Subject, r: &mut Prng, counts: &mut Counts,
-    seen: impl FnMut(&Start, &Call, &Given),
+    mut seen: impl FnMut(&Start, &Call, &Given),
 ) -> Result<(), String> {
     let start = random_start(r);
-    let mut left = r.pick(&[8, 20, 60, 60]);
-    let mut first = first_calls(&start, r);
+    let calls = r.pick(&[8, 20, 60, 60]);
+    sequence_from(subject, &start, calls, r, counts, |c, g| seen(&start, c, g))
+}
+
+/// The same from a given start, of so many calls behind the first ones.
+pub fn sequence_from(
+    subject: &dyn Subject, start: &Start, calls: usize, r: &mut Prng, counts: &mut Counts,
+    seen: impl FnMut(&Call, &Given),
+) -> Result<(), String> {
+    let mut left = calls;
+    let mut first = first_calls(start, r);
     let next = |side: &mut Side| {
         if let Some(call) = first.pop() {
             return Some(call);
         }
-        left -= 1;
-        (left >= 0).then(|| Draw { r, side }.call())
+        left = left.checked_sub(1)?;
+        Some(Draw { r, side }.call())
     };
-    let mut seen = seen;
-    let result = sequence(subject, &start, counts, next, |c, g| seen(&start, c, g));
-    result.map_err(|(calls, _)| report(subject, &start, &calls))
+    let result = sequence(subject, start, counts, next, seen);
+    result.map_err(|(calls, _)| report(subject, start, &calls))
 }

@@ -51,18 +51,62 @@ fn alphabet() -> Vec<Call> {
     ]
 }
 
+/// Every `step`-th of all sequences of `depth` calls.
+pub fn sequences(depth: u32, step: usize) -> impl Iterator<Item = (Start, Vec<Call>)> {
+    starts().into_iter().flat_map(move |start| words(start, alphabet(), depth, step))
+}
+
+/// Two packets at equal or different times, what may come between, the clock around each time, and a release: every
+/// choice.
+pub fn releases() -> impl Iterator<Item = (Start, Vec<Call>)> {
+    let (p, q, id) = (ping(1, 1), ping(1, 2), 1 << 16 | 1);
+    let seconds = [
+        Call::Unwrapped((1, 0), p.clone()),
+        Call::Unwrapped((1, 0), q.clone()),
+        Call::Unwrapped((2, 0), p.clone()),
+        Call::Unwrapped((2, 0), q),
+    ];
+    let between = [
+        Call::Count,
+        Call::Disable,
+        Call::DeleteById(id),
+        Call::DeleteByIdKeep(id),
+        Call::Part(0, 7),
+    ];
+    let clocks = [(0, 999_999_999), (1, 0), (1, 1), (1, 999_999_999), (2, 0)];
+    let mut all = Vec::new();
+    for second in &seconds {
+        for other in &between {
+            for clock in clocks {
+                for delete in [true, false] {
+                    let first = Call::Unwrapped((1, 0), p.clone());
+                    let tick = Call::Tick { log: 200, limit: 9, delete };
+                    let calls = [first, second.clone(), other.clone(), Call::SetClock(clock), tick];
+                    all.push((starts().swap_remove(1), calls.to_vec()));
+                }
+            }
+        }
+    }
+    all.into_iter()
+}
+
+fn words(
+    start: Start, letters: Vec<Call>, depth: u32, step: usize,
+) -> impl Iterator<Item = (Start, Vec<Call>)> {
+    let base = letters.len();
+    (0..base.pow(depth)).step_by(step).map(move |number| {
+        let letter = |k: u32| letters[number / base.pow(k) % base].clone();
+        (start.clone(), (0..depth).map(letter).collect())
+    })
+}
+
 /// All sequences of `depth` calls; those with a call outside the domain lose that call.
 pub fn all(subject: &dyn Subject, depth: u32, counts: &mut Counts) -> Result<(), String> {
-    let alphabet = alphabet();
-    let base = alphabet.len();
-    for start in starts() {
-        for number in 0..base.pow(depth) {
-            let digit = |k: u32| alphabet[number / base.pow(k) % base].clone();
-            let mut calls = (0..depth).map(digit);
-            let next = |_: &mut Side| calls.next();
-            let result = sequence(subject, &start, counts, next, |_, _| ());
-            result.map_err(|(calls, _)| report(subject, &start, &calls))?;
-        }
+    for (start, calls) in sequences(depth, 1) {
+        let mut calls = calls.into_iter();
+        let next = |_: &mut Side| calls.next();
+        let result = sequence(subject, &start, counts, next, |_, _| ());
+        result.map_err(|(calls, _)| report(subject, &start, &calls))?;
     }
     Ok(())
 }

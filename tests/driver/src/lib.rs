@@ -12,6 +12,7 @@ pub mod granted;
 pub mod packets;
 pub mod prng;
 pub mod random_calls;
+pub mod sample;
 pub mod side;
 mod starts;
 pub mod two;

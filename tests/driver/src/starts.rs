@@ -6,20 +6,53 @@ use crate::packets::ping;
 use crate::prng::Prng;
 use crate::side::{Start, END};
 
-const SIZES: [u64; 16] = [1, 5, 12, 13, 13, 14, 15, 16, 17, 20, 24, 32, 33, 64, 100, 4096];
+/// What a start is drawn from.
+struct Choice {
+    pools: &'static [usize],
+    sizes: &'static [u64],
+    slots: &'static [u64],
+    entries: &'static [u64],
+    /// One setup in so many has a subpool of very many slots.
+    many: usize,
+}
+
+const ANY: Choice = Choice {
+    pools: &[1, 1, 2, 2, 3, 4, 8],
+    sizes: &[1, 5, 12, 13, 13, 14, 15, 16, 17, 20, 24, 32, 33, 64, 100, 4096],
+    slots: &[1, 1, 2, 3, 8],
+    entries: &[1, 2, 3, 6, 12, 40, 4096],
+    many: 40,
+};
+
+/// Setups whose whole state is a short line.
+const SMALL: Choice = Choice {
+    pools: &[1, 1, 1, 2, 2, 2, 3, 8],
+    sizes: &[1, 5, 12, 13, 13, 13, 14, 14, 15, 16, 17, 20],
+    slots: &[1, 1, 2, 2, 3, 8],
+    entries: &[1, 2, 3, 6, 12],
+    many: usize::MAX,
+};
 
 pub fn random_start(r: &mut Prng) -> Start {
-    let number = r.pick(&[1, 1, 2, 2, 3, 4, 8]);
+    drawn(&ANY, r)
+}
+
+pub fn small_start(r: &mut Prng) -> Start {
+    drawn(&SMALL, r)
+}
+
+fn drawn(choice: &Choice, r: &mut Prng) -> Start {
+    let number = r.pick(choice.pools);
     let mut sizes: Vec<u64> = Vec::new();
     while sizes.len() < number {
-        let size = r.pick(&SIZES);
+        let size = r.pick(choice.sizes);
         if !sizes.contains(&size) {
             sizes.push(size);
         }
     }
     sizes.sort();
-    let many = if r.one_in(40) { r.below(number) } else { number };
-    let slots = |k: usize, r: &mut Prng| if k == many { 256 } else { r.pick(&[1, 1, 2, 3, 8]) };
+    let many = if r.one_in(choice.many) { r.below(number) } else { number };
+    let slots = |k: usize, r: &mut Prng| if k == many { 256 } else { r.pick(choice.slots) };
     let mut subpools: Vec<(u64, u64)> =
         sizes.iter().enumerate().map(|(k, &size)| (slots(k, r), size)).collect();
     let bytes = |pools: &[(u64, u64)]| pools.iter().map(|&(slots, size)| slots * size).sum::<u64>();
@@ -34,7 +67,7 @@ pub fn random_start(r: &mut Prng) -> Start {
     Start {
         subpools,
         spilling: r.one_in(2),
-        entries: r.pick(&[1, 2, 3, 6, 12, 40, 4096]),
+        entries: r.pick(choice.entries),
         clock: (secs, r.pick(&NANOS)),
         margin,
     }

@@ -1,9 +1,11 @@
 //! `generate N SEED`: N random sequences inside the domain of equality, each call as a line "request => answer" in the
 //! original's line protocol: a release answers every record and every byte that it handed out. A sequence begins with
 //! its setup, "new", and ends with the whole state, "dump" and "drain", but where its last call was refused with 13.
+//! `generate sample`: the fixed sample of crates/oracle_list/stdin, in the same form.
 use driver::against::Counts;
 use driver::domain::random_sequence;
 use driver::prng::Prng;
+use driver::sample::sample;
 use driver::side::line;
 use driver::Compared;
 use original::lines::Lines;
@@ -28,16 +30,11 @@ fn one_sequence(r: &mut Prng) -> Result<Vec<String>, String> {
     Ok(requests.iter().map(|q| format!("{q} => {}", lines.answer(q))).collect())
 }
 
-fn main() -> ExitCode {
-    let args: Vec<u64> = std::env::args().skip(1).map(|a| a.parse().expect("a number")).collect();
-    let [n, seed] = args[..] else {
-        eprintln!("usage: generate N SEED");
-        return ExitCode::FAILURE;
-    };
+/// To standard output, up to the first difference.
+fn written(sequences: impl IntoIterator<Item = Result<Vec<String>, String>>) -> ExitCode {
     let mut out = std::io::BufWriter::new(std::io::stdout().lock());
-    let mut seeds = Prng::new(seed);
-    for _ in 0..n {
-        match one_sequence(&mut seeds.part()) {
+    for lines in sequences {
+        match lines {
             Ok(lines) => lines.iter().for_each(|l| writeln!(out, "{l}").expect("output")),
             Err(report) => {
                 eprintln!("DIFFERENCE\n{report}");
@@ -46,4 +43,18 @@ fn main() -> ExitCode {
         }
     }
     ExitCode::SUCCESS
+}
+
+fn main() -> ExitCode {
+    let words: Vec<String> = std::env::args().skip(1).collect();
+    if words == ["sample"] {
+        return written([sample().map(|s| s.lines)]);
+    }
+    let args: Vec<u64> = words.iter().map(|a| a.parse().expect("a number")).collect();
+    let [n, seed] = args[..] else {
+        eprintln!("usage: generate N SEED, or generate sample");
+        return ExitCode::FAILURE;
+    };
+    let mut seeds = Prng::new(seed);
+    written((0..n).map(|_| one_sequence(&mut seeds.part())))
 }

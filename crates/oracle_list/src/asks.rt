@@ -1,0 +1,256 @@
+// A request to the proved library: the number that it returns; its answer's words, and the bytes that it hands out, are in what it is lent.
+use crate::kinds;
+use crate::store_asks;
+use silotwist::record_calls;
+use silotwist::schedule_calls;
+use silotwist::tick_call;
+use text::line;
+
+// What a buffer holds before a call.
+pub const GROUND: u8 = 238;
+
+pub fn ask(
+    k: usize,
+    text: &[u8],
+    setup: &[u64],
+    record: &mut [u64],
+    store: &mut [u8],
+    lens: &mut [u16],
+    rows: &mut [u64],
+    bytes: &mut [u8],
+    answer: &mut [u64; 8],
+) -> u32 {
+    if k < kinds::WRAPPEDL - 1 {
+        return start(k, text, setup, record, store, lens, rows, answer);
+    }
+    if k <= kinds::STORED {
+        return insert(k, text, setup, record, store, lens, rows, bytes, answer);
+    }
+    if k < kinds::RESET {
+        return window(k, text, setup, record, store, lens, rows, answer);
+    }
+    if k < kinds::RELEASE {
+        return delete(k, text, setup, record, store, lens, rows, answer);
+    }
+    if k >= kinds::DUMP {
+        return 0;
+    }
+    if k == kinds::RELEASE {
+        return release(text, setup, record, store, lens, rows, bytes, answer);
+    }
+    store_asks::ask(k, text, setup, store, lens, bytes, answer)
+}
+
+fn start(
+    k: usize,
+    text: &[u8],
+    setup: &[u64],
+    record: &mut [u64],
+    store: &mut [u8],
+    lens: &mut [u16],
+    rows: &mut [u64],
+    answer: &mut [u64],
+) -> u32 {
+    if k == kinds::NEW {
+        return schedule_calls::silotwist_fresh(
+            setup,
+            record,
+            store,
+            lens,
+            rows,
+            line::signed(text, 3),
+            line::long(text, 4),
+            line::number(text, 5),
+            line::long(text, 6),
+            answer,
+        );
+    }
+    if k == kinds::NUM {
+        return schedule_calls::silotwist_count(setup, record, store, lens, rows, answer);
+    }
+    change(k, text, record, answer)
+}
+
+fn change(k: usize, text: &[u8], record: &mut [u64], answer: &mut [u64]) -> u32 {
+    if k == kinds::CLOCK {
+        return record_calls::silotwist_set_clock(
+            record,
+            line::signed(text, 1),
+            line::long(text, 2),
+            answer,
+        );
+    }
+    if k == kinds::ENABLE {
+        return record_calls::silotwist_enable(record, answer);
+    }
+    record_calls::silotwist_disable(record, answer)
+}
+
+// The original's two forms of the wrapped insertion are one call here, and so are its two of the unwrapped one.
+fn insert(
+    k: usize,
+    text: &[u8],
+    setup: &[u64],
+    record: &mut [u64],
+    store: &mut [u8],
+    lens: &mut [u16],
+    rows: &mut [u64],
+    bytes: &mut [u8],
+    answer: &mut [u64],
+) -> u32 {
+    if k <= kinds::WRAPPEDL {
+        let n = line::bytes(text, 1, bytes);
+        return schedule_calls::silotwist_insert_wrapped(
+            setup,
+            record,
+            store,
+            lens,
+            rows,
+            &bytes[..n],
+            answer,
+        );
+    }
+    let secs = line::signed(text, 1);
+    let nanos = line::long(text, 2);
+    if k <= kinds::UNWRAPPEDT {
+        let n = line::bytes(text, 3, bytes);
+        return schedule_calls::silotwist_insert_unwrapped(
+            setup,
+            record,
+            store,
+            lens,
+            rows,
+            secs,
+            nanos,
+            &bytes[..n],
+            answer,
+        );
+    }
+    schedule_calls::silotwist_insert_stored(
+        setup,
+        record,
+        store,
+        lens,
+        rows,
+        secs,
+        nanos,
+        line::number(text, 3),
+        line::number(text, 4),
+        answer,
+    )
+}
+
+// Kinds 0 all, 1 from-to, 2 from, 3 to; the deletion of all has none.
+fn window(
+    k: usize,
+    text: &[u8],
+    setup: &[u64],
+    record: &mut [u64],
+    store: &mut [u8],
+    lens: &mut [u16],
+    rows: &mut [u64],
+    answer: &mut [u64],
+) -> u32 {
+    let w = line::number(text, 1);
+    let has_from = either(w, 1, 2);
+    let has_to = either(w, 1, 3);
+    if k == kinds::WINDOW {
+        return schedule_calls::silotwist_window(
+            setup,
+            record,
+            store,
+            lens,
+            rows,
+            has_from,
+            line::signed(text, 2),
+            line::long(text, 3),
+            has_to,
+            line::signed(text, 4),
+            line::long(text, 5),
+            answer,
+        );
+    }
+    schedule_calls::silotwist_delete_window(
+        setup,
+        record,
+        store,
+        lens,
+        rows,
+        has_from,
+        line::signed(text, 2),
+        line::long(text, 3),
+        has_to,
+        line::signed(text, 4),
+        line::long(text, 5),
+        answer,
+    )
+}
+
+fn either(w: u64, a: u64, b: u64) -> bool {
+    if w == a {
+        return true;
+    }
+    w == b
+}
+
+fn delete(
+    k: usize,
+    text: &[u8],
+    setup: &[u64],
+    record: &mut [u64],
+    store: &mut [u8],
+    lens: &mut [u16],
+    rows: &mut [u64],
+    answer: &mut [u64],
+) -> u32 {
+    let id = line::number(text, 1);
+    if k == kinds::RESET {
+        return schedule_calls::silotwist_reset(setup, record, store, lens, rows, answer);
+    }
+    if k == kinds::DELID {
+        return schedule_calls::silotwist_delete_by_id_keep(
+            setup,
+            record,
+            store,
+            lens,
+            rows,
+            id,
+            answer,
+        );
+    }
+    schedule_calls::silotwist_delete_by_id(setup, record, store, lens, rows, id, answer)
+}
+
+// Limit and log are ample. "k" keeps the packets; "d", and "b" with a buffer of the original's, delete them.
+fn release(
+    text: &[u8],
+    setup: &[u64],
+    record: &mut [u64],
+    store: &mut [u8],
+    lens: &mut [u16],
+    rows: &mut [u64],
+    log: &mut [u8],
+    answer: &mut [u64],
+) -> u32 {
+    fill(log);
+    let deletes = line::which(text, 1, b"k") > 0;
+    tick_call::silotwist_tick(
+        setup,
+        record,
+        store,
+        lens,
+        rows,
+        log,
+        18446744073709551615,
+        deletes,
+        answer,
+    )
+}
+
+pub fn fill(bytes: &mut [u8]) {
+    let mut i: usize = 0;
+    while i < bytes.len() {
+        bytes[i] = GROUND;
+        i += 1;
+    }
+}
