@@ -1,5 +1,6 @@
 -- The facts by which the store's functions are proved.
 pub mod Layouts
+pub mod Faults
 pub mod Bounds
 pub mod Numbers
 pub mod Judging

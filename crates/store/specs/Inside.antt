@@ -1,4 +1,4 @@
--- A reader need not believe this file: only contracts of private functions cite it. The search of the lists for an address or for room.
+-- A reader need not believe this file: only contracts of private functions cite it. Faults that judging counts, and the search of the lists for an address or for room.
 use Prim.Native.Nat.{_*_, _+_, _-_, ℕ}
 use Rattle.rules.specs.Tests.{firstFrom, unless}
 use Rattle.store.specs.Address.{addressOf, poolOf, slotOf}
@@ -7,7 +7,7 @@ use Rattle.store.specs.Limits.{storeFree}
 use Rattle.store.specs.Pools.{Choice, Found, allTaken, held, into, noPool, noSlot, tooLarge, vacant}
 use lib.Dec.{eqb, leb, ltb}
 use lib.ListN.{getD}
-use mathlib.Core.Bool.{Bool, cond}
+use mathlib.Core.Bool.{Bool, cond, false, true}
 use mathlib.Core.List.{List}
 use Rattle.store.specs.declared.Setup.{Setup}
 use Rattle.store.specs.declared.layout.Cell.{Cell}
@@ -15,6 +15,11 @@ use Rattle.store.specs.declared.StoreIdError.the-variants.{InvalidSubpoo
 use Rattle.store.specs.declared.StoreRefusal.the-variants.{InvalidStoreId, DataTooLarge, StoreFull, DataDoesNotExist}
 use Rattle.store.specs.declared.search.Spot.{Spot}
 use Rattle.store.specs.declared.search.Spot.the-variants.{Refused, At}
+
+-- 1 for a test that fails: what counting faults adds up
+unfoldable pub faultOf : Bool → ℕ
+faultOf true = 0
+faultOf false = 1
 
 -- slot i of subpool k in the lent lists
 abbrev pub cellOf : Setup → ℕ → ℕ → Cell

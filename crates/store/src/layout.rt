@@ -21,6 +21,13 @@ pub fn wide(x: u16) -> usize
     x as usize
 }
 
+pub fn slot_size(setup: Setup, k: usize) -> u16
+    requires { ⌜ k < maxSubpools ⌝ }
+    ensures { λ r. ⌜ r ≡ sizeAt setup k ⌝ }
+{
+    setup.sizes[k]
+}
+
 pub fn size_at(setup: Setup, k: usize) -> usize
     requires { ⌜ k < maxSubpools ⌝ }
     ensures { λ r. ⌜ (r ≡ sizeAt setup k) × (r < 65536) ⌝ }

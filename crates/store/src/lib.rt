@@ -135,7 +135,7 @@ pub fn lens_ok(setup: Setup, lens: &[u16]) -> bool
     let mut k: usize = 0;
     while k < n {
         let count = layout::slots_at(setup, k);
-        let ok = tests::pool_lens_ok(lens, base, count, layout::size_at(setup, k));
+        let ok = tests::pool_lens_ok(lens, base, count, layout::slot_size(setup, k));
         if !ok {
             return false;
         }

@@ -1,10 +1,11 @@
 // The loops of the first three refusals' tests.
 ghost use mathlib.Core.Path.{_≡_};
-ghost use Prim.Native.Nat.{_+_, _≤_};
+ghost use Prim.Native.Nat.{_+_, _<_, _≤_};
 ghost use lib.ListN.{length};
 ghost use Rattle.rules.specs.Tests.{allBelow};
 ghost use Rattle.store.specs.Limits.{maxSubpools};
-ghost use Rattle.store.specs.Judge.{poolOk, poolOkAt, rowOk};
+ghost use Rattle.store.specs.Inside.{faultOf};
+ghost use Rattle.store.specs.Judge.{lenOk, poolOk, poolOkAt, rowOk};
 use crate::MAX_SLOT_SIZE;
 use crate::MAX_SLOTS;
 use crate::STORE_FREE;
@@ -45,20 +46,29 @@ pub fn pools_ok(setup: Setup) -> bool
     true
 }
 
-// Each of the lengths of one subpool is free or within its slot.
-pub fn pool_lens_ok(lens: &[u16], base: usize, count: usize, size: usize) -> bool
-    requires { ⌜ base + count ≤ length (now lens) ⌝ }
+// Each of the lengths of one subpool is free or within its slot. Faults are counted in 16 bits and nothing is left early, so that it is vectorised.
+pub fn pool_lens_ok(lens: &[u16], base: usize, count: usize, size: u16) -> bool
+    requires { ⌜ (base + count ≤ length (now lens)) × (count < 65536) ⌝ }
     ensures { λ r. ⌜ r ≡ allBelow (rowOk (now (lens .entry)) base size) count ⌝ }
 {
+    let mut faults: u16 = 0;
     let mut s: usize = 0;
     while s < count {
-        let w = lens[base + s];
-        if w != STORE_FREE {
-            if size < layout::wide(w) {
-                return false;
-            }
-        }
+        faults = faults + over(lens[base + s], size);
         s += 1;
     }
-    true
+    faults == 0
+}
+
+// 1 where a length is neither free nor within its slot.
+fn over(w: u16, size: u16) -> u16
+    ensures { λ r. ⌜ r ≡ faultOf (lenOk size w) ⌝ }
+{
+    if w == STORE_FREE {
+        return 0;
+    }
+    if size < w {
+        return 1;
+    }
+    0
 }

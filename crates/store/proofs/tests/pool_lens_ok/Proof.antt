@@ -1,34 +1,29 @@
 -- `store::tests::pool_lens_ok` meets its contract.
-use Prim.Native.Nat.{_-_, _<_, _≤_, ℕ}
-use Rattle.rules.proofs.All.{all-end, all-stop}
-use Rattle.store.proofs.Layouts.{len-bad, len-free, len-small}
+use Prim.Native.Nat.{_-_, _≤_}
+use Rattle.store.proofs.Faults.{Counted, count-first, count-last, count-next, fault-few}
 use Rattle.store.specs.Judge.{rowOk}
-use borrow.Author.Count.{below-more, below-none}
-use mathlib.Core.Bool.{true}
-use mathlib.Core.Logic.{⊎-elim}
-use mathlib.Core.Path.{_≡_}
 use native.Mathlib.Omega.{arith}
 use borrow.Author.Needs.{needs}
 use Rattle.store.proofs.tests.pool_lens_ok.Statement.{statement}
 use Rattle.store.proofs.tests.pool_lens_ok.Tie as tie
 
 abbrev Inv-loop : tie.InvT-loop
-Inv-loop lens base count size s₀ s = (s ≤ count) × ((j : ℕ) → j < s → rowOk lens base size j ≡ true)
+Inv-loop lens base count size faults₀ s₀ faults s = (s ≤ count) × Counted (rowOk lens base size) count s faults
 
 abbrev μ-loop : tie.MeasureT-loop
-μ-loop lens base count size s₀ s = count - s
+μ-loop lens base count size faults₀ s₀ faults s = count - s
 
 loop-holds : tie.Need-loop-holds Inv-loop μ-loop
-loop-holds c = (omega arith, below-none _)
+loop-holds c = (omega arith, count-first _ _)
 
-returns : tie.Need-returns Inv-loop μ-loop
-returns c = all-stop _ _ (c .before .before .before .before .before .loop .s) (search needs) (len-bad _ _ (c .before .before .if1 .taken) (rw (c .before .wide .ensures .0) at (c .if2 .taken)))
+add-faults : tie.Need-add-faults Inv-loop μ-loop
+add-faults c = omega (arith, c .before .before .before .loop .inv .1 .few, c .over .ensures, fault-few (rowOk (c .before .before .before .before .before .args .lens .now) (c .before .before .before .before .before .args .base) (c .before .before .before .before .before .args .size) (c .before .before .before .loop .s)))
 
 loop-again : tie.Need-loop-again Inv-loop μ-loop
-loop-again c = (omega arith, below-more _ _ (c .before .before .before .loop .inv .1) (⊎-elim (λ w. len-small _ _ (rw (w .1 .ensures .0) at (w .2 .left))) (λ w. len-free (c .before .before .before .before .before .args .size) _ (w .left)) (c .if1 .came)))
+loop-again c = (omega arith, count-next _ _ (c .before .before .before .loop .s) (c .before .before .before .loop .faults) (c .over .result) (omega arith) (c .before .before .before .loop .inv .1) (c .over .ensures))
 
-returns-2 : tie.Need-returns-2 Inv-loop μ-loop
-returns-2 c = all-end _ _ _ (c .loop-test .left) (c .before .loop .inv .1)
+returns : tie.Need-returns Inv-loop μ-loop
+returns c = count-last _ _ (c .before .loop .s) (c .before .loop .faults) (omega arith) (c .before .loop .inv .1)
 
 pub pool-lens-ok-spec : {M : Type 1} → statement M
 pool-lens-ok-spec =
@@ -41,8 +36,8 @@ pool-lens-ok-spec =
     (λ c. search needs)
     (λ c. search needs)
     (λ c κs. search needs)
-    returns
+    add-faults
     (λ c. search needs)
     (λ c. search needs)
     loop-again
-    returns-2)
+    returns)
