@@ -11,6 +11,7 @@ use crate::side::{line, Given, Side, Start};
 use crate::starts::small_start;
 use crate::Compared;
 use original::lines::{hex, Lines};
+use plain::Subject;
 
 const SEED: u64 = 20_210;
 const RANDOM: usize = 1_500;
@@ -110,8 +111,9 @@ impl Requests {
 
 impl Sample {
     /// Sequences of fixed calls; one that leaves the domain, or ends before its last call, is in a shorter one.
-    fn fixed(&mut self, of: impl Iterator<Item = (Start, Vec<Call>)>) -> Result<(), String> {
-        let subject = Compared::default();
+    fn fixed(
+        &mut self, subject: &dyn Subject, of: impl Iterator<Item = (Start, Vec<Call>)>,
+    ) -> Result<(), String> {
         for (start, calls) in of {
             let whole = calls.len();
             let mut left = calls.into_iter();
@@ -119,8 +121,8 @@ impl Sample {
             let mut counts = self.counts.clone();
             let next = |_: &mut Side| left.next();
             let seen = |c: &Call, g: &Given| made.push(&start, c, g);
-            let result = sequence(&subject, &start, &mut counts, next, seen);
-            result.map_err(|(calls, _)| report(&subject, &start, &calls))?;
+            let result = sequence(subject, &start, &mut counts, next, seen);
+            result.map_err(|(calls, _)| report(subject, &start, &calls))?;
             if made.lines.len() == 1 + whole {
                 self.lines.extend(made.answered());
                 self.counts = counts;
@@ -130,7 +132,7 @@ impl Sample {
     }
 
     /// One random sequence; a fresh start in it begins the next one.
-    fn random(&mut self, r: &mut Prng) -> Result<(), String> {
+    fn random(&mut self, subject: &dyn Subject, r: &mut Prng) -> Result<(), String> {
         let start = small_start(r);
         let calls = r.pick(&[2, 5, 9, 14]);
         let mut made = Requests::of(&start);
@@ -142,7 +144,7 @@ impl Sample {
             }
             _ => made.push(&start, c, g),
         };
-        sequence_from(&Compared::default(), &start, calls, r, &mut self.counts, seen)?;
+        sequence_from(subject, &start, calls, r, &mut self.counts, seen)?;
         self.lines.extend(made.answered());
         self.counts.sequences += begun;
         Ok(())
@@ -191,15 +193,20 @@ fn largest() -> Vec<(Start, Vec<Call>)> {
 }
 
 pub fn sample() -> Result<Sample, String> {
+    sample_against(&Compared::default())
+}
+
+/// The sample while a subject answers as the original does; else the first difference.
+pub fn sample_against(subject: &dyn Subject) -> Result<Sample, String> {
     let mut sample = Sample::default();
-    sample.fixed(exhaustive::sequences(1, 1))?;
-    sample.fixed(exhaustive::sequences(2, 1))?;
-    sample.fixed(exhaustive::sequences(3, STEP))?;
-    sample.fixed(exhaustive::releases())?;
-    sample.fixed(largest().into_iter())?;
+    sample.fixed(subject, exhaustive::sequences(1, 1))?;
+    sample.fixed(subject, exhaustive::sequences(2, 1))?;
+    sample.fixed(subject, exhaustive::sequences(3, STEP))?;
+    sample.fixed(subject, exhaustive::releases())?;
+    sample.fixed(subject, largest().into_iter())?;
     let mut seeds = Prng::new(SEED);
     for _ in 0..RANDOM {
-        sample.random(&mut seeds.part())?;
+        sample.random(subject, &mut seeds.part())?;
     }
     Ok(sample)
 }

@@ -1,6 +1,7 @@
 //! The fixed sample: inside the domain of equality, with every call, every answer and every boundary that lies there.
-use driver::sample::{sample, Sample};
+use driver::sample::{sample, sample_against, Sample};
 use driver::{events, granted};
+use plain::{Plain, Rule};
 use std::collections::BTreeSet;
 
 /// Refusals that the domain of equality leaves out; 8 and 9 since packets and stamps are ones that both read.
@@ -73,4 +74,11 @@ fn the_original_answers_every_line() {
         let strange = ["PANIC", "STOP", "SANITIZED", "UNKNOWN"].iter().any(|w| line.contains(w));
         assert!(!strange && line.contains(" => "), "{line}");
     }
+}
+
+#[test]
+fn every_broken_rule_that_shows_in_the_domain_differs_somewhere() {
+    let missed = |rule: &&Rule| sample_against(&Plain::broken(**rule)).is_ok();
+    let missed: Vec<_> = Rule::IN_DOMAIN.iter().filter(missed).collect();
+    assert!(missed.is_empty(), "{missed:?}");
 }
