@@ -1,6 +1,8 @@
 // A request to the proved library: the number that it returns; its answer's words, and the bytes that it hands out, are in what it is lent.
 use crate::kinds;
 use crate::store_asks;
+use silotwist::delete_calls;
+use silotwist::insert_calls;
 use silotwist::record_calls;
 use silotwist::schedule_calls;
 use silotwist::tick_call;
@@ -100,7 +102,7 @@ fn insert(
 ) -> u32 {
     if k <= kinds::WRAPPEDL {
         let n = line::bytes(text, 1, bytes);
-        return schedule_calls::silotwist_insert_wrapped(
+        return insert_calls::silotwist_insert_wrapped(
             setup,
             record,
             store,
@@ -114,7 +116,7 @@ fn insert(
     let nanos = line::long(text, 2);
     if k <= kinds::UNWRAPPEDT {
         let n = line::bytes(text, 3, bytes);
-        return schedule_calls::silotwist_insert_unwrapped(
+        return insert_calls::silotwist_insert_unwrapped(
             setup,
             record,
             store,
@@ -126,7 +128,7 @@ fn insert(
             answer,
         );
     }
-    schedule_calls::silotwist_insert_stored(
+    insert_calls::silotwist_insert_stored(
         setup,
         record,
         store,
@@ -170,7 +172,7 @@ fn window(
             answer,
         );
     }
-    schedule_calls::silotwist_delete_window(
+    delete_calls::silotwist_delete_window(
         setup,
         record,
         store,
@@ -208,7 +210,7 @@ fn delete(
         return schedule_calls::silotwist_reset(setup, record, store, lens, rows, answer);
     }
     if k == kinds::DELID {
-        return schedule_calls::silotwist_delete_by_id_keep(
+        return delete_calls::silotwist_delete_by_id_keep(
             setup,
             record,
             store,
@@ -218,7 +220,7 @@ fn delete(
             answer,
         );
     }
-    schedule_calls::silotwist_delete_by_id(setup, record, store, lens, rows, id, answer)
+    delete_calls::silotwist_delete_by_id(setup, record, store, lens, rows, id, answer)
 }
 
 // Limit and log are ample. "k" keeps the packets; "d", and "b" with a buffer of the original's, delete them.
