@@ -1,8 +1,7 @@
 // What a call is given beside the lent tables.
-use crate::line;
 use record::Record;
 use schedule::Setup;
-ghost use Prim.Native.Nat.{_≤_};
+use text::line;
 
 // The setup, the record, and how much of the store, the lengths and the rows is lent.
 pub struct Bench {
@@ -20,7 +19,11 @@ pub fn none() -> Bench {
 
 // Slots, their size, entries, in one subpool. All that there is is lent.
 pub fn set_up(rec: Record, text: &[u8]) -> Bench {
-    lend(setup(text), rec, b"1048576 258 16388")
+    lend(
+        setup(text),
+        rec,
+        b"Lend 1048576 bytes, 258 lengths, 16388 words",
+    )
 }
 
 // How many bytes, lengths and words of rows.
@@ -28,9 +31,9 @@ pub fn lend(setup: Setup, rec: Record, text: &[u8]) -> Bench {
     Bench {
         setup: setup,
         rec: rec,
-        room: line::index(text, 0),
-        lens: line::index(text, 1),
-        rows: line::index(text, 2),
+        room: line::index(text, 1),
+        lens: line::index(text, 3),
+        rows: line::index(text, 5),
     }
 }
 
@@ -48,30 +51,24 @@ pub fn with_record(b: Bench, rec: Record) -> Bench {
 fn setup(text: &[u8]) -> Setup {
     let s = store::Setup {
         pools: 1,
-        sizes: [line::short(text, 1), 0, 0, 0, 0, 0, 0, 0],
-        slots: [line::short(text, 0), 0, 0, 0, 0, 0, 0, 0],
+        sizes: [line::short(text, 4), 0, 0, 0, 0, 0, 0, 0],
+        slots: [line::short(text, 1), 0, 0, 0, 0, 0, 0, 0],
         spill: false,
     };
     Setup {
         store: s,
-        entries: line::index(text, 2),
+        entries: line::index(text, 6),
     }
 }
 
 // The count, the clock, the margin, and whether it is enabled.
 pub fn record(text: &[u8]) -> Record {
-    let clock = line::time(text, 1);
-    let margin = line::margin(text, 3);
+    let clock = line::time_of(text, 4, 6);
+    let margin = line::margin_of(text, 9, 11);
     Record {
-        count: line::index(text, 0),
+        count: line::index(text, 2),
         clock: clock,
         margin: margin,
-        enabled: line::number(text, 5) == 1,
+        enabled: line::number(text, 14) == 1,
     }
-}
-
-pub fn least(a: usize, most: usize) -> usize
-    ensures { λ r. ⌜ r ≤ most ⌝ }
-{
-    if a <= most { a } else { most }
 }

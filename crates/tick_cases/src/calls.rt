@@ -1,12 +1,19 @@
 // What a line does, by its first letter: small letters call the scheduler and the store, capitals set and show what they are lent.
 use crate::bench;
 use crate::bench::Bench;
-use crate::line;
-use crate::show;
 use crate::state;
 use record::Record;
 use schedule::Setup;
+use text::line;
+use text::out;
 ghost use Prim.Native.Nat.{_≤_};
+
+pub fn first(text: &[u8]) -> u8 {
+    if 0 < text.len() {
+        return text[0];
+    }
+    0
+}
 
 pub fn one(
     b: Bench,
@@ -19,7 +26,7 @@ pub fn one(
 ) -> Bench {
     let setup = b.setup;
     let rec = b.rec;
-    show::say(text);
+    out::say(text);
     if k == b't' {
         return bench::with_record(b, tick(b, text, store, lens, rows, log));
     }
@@ -56,10 +63,10 @@ fn tick(
     rows: &mut [u64],
     log: &mut [u8],
 ) -> Record {
-    let s = bench::least(b.room, store.len());
-    let l = bench::least(b.lens, lens.len());
-    let r = bench::least(b.rows, rows.len());
-    let n = bench::least(line::index(text, 0), log.len());
+    let s = line::least(b.room, store.len());
+    let l = line::least(b.lens, lens.len());
+    let r = line::least(b.rows, rows.len());
+    let n = line::part(text, 3, log.len());
     let setup = b.setup;
     let rec = b.rec;
     let t = tick::tick(
@@ -69,11 +76,12 @@ fn tick(
         &mut lens[0..l],
         &mut rows[0..r],
         &mut log[0..n],
-        line::index(text, 1),
-        line::byte(text, 5) == b'd',
+        line::index(text, 5),
+        line::which(text, 1, b"delete,") == 0,
     );
     let a = t.answer;
-    show::ticked(a);
+    out::say(b" => ");
+    shown::ticked(a);
     t.next
 }
 
@@ -94,7 +102,7 @@ fn change(
             store,
             lens,
             rows,
-            line::time(text, 0),
+            line::time_of(text, 2, 4),
             line::margin(b"0 0", 0),
         );
         return c.next;
@@ -104,7 +112,7 @@ fn change(
         return rec;
     }
     if k == b'v' {
-        store::delete(setup.store, store, lens, line::number(text, 0));
+        store::delete(setup.store, store, lens, line::number(text, 1));
         return rec;
     }
     if k == b'i' {
@@ -117,7 +125,7 @@ fn change(
             store,
             lens,
             rows,
-            line::time(text, 0),
+            line::time_of(text, 3, 5),
             b"\x18\x02\xC0\x11\x00\x06\x2F\x11\x01\x00\x00\xDD\xB5",
         );
         return p.next;
@@ -127,7 +135,7 @@ fn change(
 
 fn mark(rec: Record, k: u8, text: &[u8]) -> Record {
     if k == b'c' {
-        let c = rec.clocked(line::time(text, 0));
+        let c = rec.clocked(line::time_of(text, 1, 3));
         return c.next;
     }
     if k == b'e' {
@@ -143,9 +151,9 @@ fn mark(rec: Record, k: u8, text: &[u8]) -> Record {
 
 // Adds a number of packets of a length. The first begins with a given byte, each later one with the next; so do a packet's bytes go on.
 fn add(setup: store::Setup, text: &[u8], store: &mut [u8], lens: &mut [u16]) {
-    let count = line::index(text, 0);
-    let n = bench::least(line::index(text, 1), 4096);
-    let mut v = line::number(text, 2);
+    let count = line::index(text, 1);
+    let n = line::part(text, 4, 4096);
+    let mut v = line::number(text, 7);
     let mut i: usize = 0;
     while i < count {
         put(setup, store, lens, n, v);
@@ -171,12 +179,12 @@ fn insert(
     lens: &[u16],
     rows: &mut [u64],
 ) -> Record {
-    let count = line::index(text, 0);
-    let t = line::time(text, 1);
-    let id_step = line::number(text, 5);
-    let addr_step = line::number(text, 6);
-    let mut id = line::number(text, 3);
-    let mut addr = line::number(text, 4);
+    let count = line::index(text, 1);
+    let t = line::time_of(text, 3, 5);
+    let id_step = line::number(text, 13);
+    let addr_step = line::number(text, 15);
+    let mut id = line::number(text, 8);
+    let mut addr = line::number(text, 10);
     let mut r = rec;
     let mut i: usize = 0;
     while i < count {

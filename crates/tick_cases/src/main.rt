@@ -1,9 +1,9 @@
 // The release tick at every boundary: each line of the input is done, and a tick is written out with its answer, its log and what it changed.
 mod bench;
 mod calls;
-mod line;
-mod show;
 mod state;
+
+use text::line;
 
 fn main() {
     let mut text = io::large_buffer();
@@ -19,17 +19,14 @@ fn all(text: &[u8]) {
     let mut b = bench::none();
     let mut at: usize = 0;
     while at < text.len() {
-        let end = line::end(text, at);
-        if end >= text.len() {
-            return;
-        }
-        let next = end + 1;
+        let end = line::end(text, at, b'\n');
+        let next = line::next(text, end);
         let mut log = state::blank();
         let s = store;
         let l = lens;
         let r = rows;
         let old = b.rec;
-        let k = line::first(&text[at..end]);
+        let k = calls::first(&text[at..end]);
         b = calls::one(
             b,
             k,
