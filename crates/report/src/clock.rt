@@ -1,6 +1,7 @@
 // Times as a date and a time of day in UTC: written, and read from a line.
 use text::line;
 use text::out;
+use time::Moment;
 use time::UnixTime;
 use utc::Date;
 ghost use Prim.Native.Nat.{_≤_};
@@ -27,17 +28,25 @@ fn time_of_day(s: u64) {
     two(b":", s % 60);
 }
 
-// A time; its nanoseconds where there are any, and its seconds as a number where it lies before 1970.
+// A time; its seconds as a number where it lies before 1970 or out of range, and its nanoseconds where there are any.
 pub fn show(text: &[u8], t: UnixTime) {
     out::say(text);
-    if t.secs < 0 {
-        out::signed(b"second ", t.secs);
+    if t.in_range() {
+        biased(t.to_moment());
     } else {
-        since_1970(t.secs as u64);
+        out::signed(b"second ", t.secs);
     }
     if t.nanos > 0 {
         out::number(b" and ns ", t.nanos as u64);
     }
+}
+
+fn biased(m: Moment) {
+    if m.secs < 4398046511104 {
+        out::number(b"second -", 4398046511104 - m.secs);
+        return;
+    }
+    since_1970(m.secs - 4398046511104);
 }
 
 // 2^42 seconds are some 51 million days.
