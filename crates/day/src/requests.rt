@@ -62,7 +62,7 @@ fn told(text: &[u8]) {
     let end = line::end(text, 0, b'=');
     out::say(b"  ");
     if end <= text.len() {
-        out::say(&text[..end]);
+        out::say(&text[0..end]);
     }
 }
 
@@ -91,12 +91,7 @@ fn call(
     }
     if k == LOSE {
         let setup = shift::setup();
-        answers::deleted(store::delete(
-            setup.store,
-            store,
-            lens,
-            line::number(text, 1),
-        ));
+        answers::deleted(store::delete(setup.store, store, lens, line::number(text, 1)));
         return rec;
     }
     mark(rec, k, text)
@@ -116,14 +111,24 @@ fn changed(c: Changed) -> Record {
 }
 
 // A wrapped telecommand: its bytes stand behind the mark.
-fn uplink(rec: Record, text: &[u8], store: &mut [u8], lens: &mut [u16], rows: &mut [u64]) -> Record {
+fn uplink(
+    rec: Record,
+    text: &[u8],
+    store: &mut [u8],
+    lens: &mut [u16],
+    rows: &mut [u64],
+) -> Record {
     let mut outer = [0u8; 128];
     let at = line::end(text, 0, b'=');
-    let mut n: usize = 0;
-    if at < text.len() {
-        n = line::bytes(&text[at..], 1, &mut outer);
+    if at >= text.len() {
+        return sent(rec, b"", store, lens, rows);
     }
-    let i = insertions::insert_wrapped_tc(shift::setup(), rec, store, lens, rows, &outer[..n]);
+    let n = line::bytes(&text[at..], 1, &mut outer);
+    sent(rec, &outer[..n], store, lens, rows)
+}
+
+fn sent(rec: Record, outer: &[u8], store: &mut [u8], lens: &mut [u16], rows: &mut [u64]) -> Record {
+    let i = insertions::insert_wrapped_tc(shift::setup(), rec, store, lens, rows, outer);
     let a = i.answer;
     answers::inserted(a);
     i.next

@@ -40,5 +40,8 @@ pub fn begun() -> Shift {
 
 pub fn with_record(s: Shift, rec: Record) -> Shift {
     let t = s.totals;
-    Shift { rec: rec, totals: t }
+    Shift {
+        rec: rec,
+        totals: t,
+    }
 }

@@ -95,7 +95,12 @@ pub fn read(text: &[u8], k: usize) -> UnixTime {
         day: number_at(text, d),
     });
     UnixTime {
-        secs: seconds(day, number_at(text, h), number_at(text, min), number_at(text, s)),
+        secs: seconds(
+            day,
+            number_at(text, h),
+            number_at(text, min),
+            number_at(text, s),
+        ),
         nanos: 0,
     }
 }

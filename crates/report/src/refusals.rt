@@ -70,7 +70,10 @@ fn store_words(e: StoreRefusal) {
         StoreRefusal::BadBuffers => out::say(b"a lent table is too short"),
         StoreRefusal::StateDamaged => out::say(b"the record or a table is damaged"),
         StoreRefusal::DataTooLarge(n) => out::number(b"no slot holds its bytes, ", n as u64),
-        StoreRefusal::StoreFull(k) => out::number(b"the store has no free slot for it in subpool ", k as u64),
+        StoreRefusal::StoreFull(k) => out::number(
+            b"the store has no free slot for it in subpool ",
+            k as u64,
+        ),
         StoreRefusal::InvalidStoreId(b) => id_words(b),
         StoreRefusal::DataDoesNotExist(a) => out::number(b"there is no packet at address ", a),
         StoreRefusal::BufferTooSmall { found, expected } => {
@@ -91,11 +94,16 @@ fn schedule_words(e: ScheduleRefusal) {
         ScheduleRefusal::Store(s) => store_words(s),
         ScheduleRefusal::BadTime => out::say(b"a time or margin is out of range"),
         ScheduleRefusal::WrongService(n) => out::number(b"its service is not 11 but ", n as u64),
-        ScheduleRefusal::WrongSubservice(n) => out::number(b"its subservice is not 4 but ", n as u64),
+        ScheduleRefusal::WrongSubservice(n) => out::number(
+            b"its subservice is not 4 but ",
+            n as u64,
+        ),
         ScheduleRefusal::TcDataEmpty => out::say(b"it has no user data"),
         ScheduleRefusal::BadTimestamp => out::say(b"its time stamp is unreadable"),
         ScheduleRefusal::TcUnreadable => out::say(b"the packet is unreadable"),
-        ScheduleRefusal::NestedScheduledTc => out::say(b"the command in it is again one to be scheduled"),
+        ScheduleRefusal::NestedScheduledTc => out::say(
+            b"the command in it is again one to be scheduled",
+        ),
         ScheduleRefusal::ReleaseTimeInTimeMargin {
             clock: now,
             margin: m,
@@ -103,7 +111,10 @@ fn schedule_words(e: ScheduleRefusal) {
         } => late(now, m, release),
         ScheduleRefusal::ScheduleFull => out::say(b"the schedule is full"),
         ScheduleRefusal::ReversedWindow => out::say(b"the window ends before it starts"),
-        ScheduleRefusal::LogTooSmall(n) => out::number(b"the log has no room, bytes needed ", n as u64),
+        ScheduleRefusal::LogTooSmall(n) => out::number(
+            b"the log has no room, bytes needed ",
+            n as u64,
+        ),
     }
 }
 
