@@ -1,0 +1,2 @@
+-- Laws of reading a log.
+pub mod Counted

@@ -1,0 +1,2 @@
+-- A release log, read record by record.
+pub mod Finding

@@ -1,0 +1,13 @@
+-- `report::totals::Totals::discarded` meets its contract.
+use Rattle.report.specs.Tally.{withDiscarded}
+use native.Mathlib.Omega.{arith}
+use borrow.Author.Needs.{needs}
+use Rattle.report.proofs.totals.Totals.discarded.Statement.{statement}
+use Rattle.report.proofs.totals.Totals.discarded.Tie as tie
+
+returns : tie.Need-returns
+unfolding withDiscarded
+returns c = simp (c .more .ensures)
+
+pub discarded-spec : {M : Type 1} → statement M
+discarded-spec = tie.close (tie.spec (λ c κs. search needs) returns)

@@ -1,0 +1,13 @@
+-- `report::totals::Totals::missing` meets its contract.
+use Rattle.report.specs.Tally.{withMissing}
+use native.Mathlib.Omega.{arith}
+use borrow.Author.Needs.{needs}
+use Rattle.report.proofs.totals.Totals.missing.Statement.{statement}
+use Rattle.report.proofs.totals.Totals.missing.Tie as tie
+
+returns : tie.Need-returns
+unfolding withMissing
+returns c = simp (c .more .ensures)
+
+pub missing-spec : {M : Type 1} → statement M
+missing-spec = tie.close (tie.spec (λ c κs. search needs) returns)

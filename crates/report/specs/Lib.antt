@@ -1,0 +1,2 @@
+-- What a shift report counts.
+pub mod Tally

@@ -1,0 +1,2 @@
+-- Laws of the calendar.
+pub mod Steps
