@@ -4,14 +4,13 @@ use Rattle.log.specs.Reading.{countOf, endOf, offsetOf, recordIn}
 use Rattle.log_reader.specs.Finding.{between, counted, foundIn, itemIn, recordOf}
 use Rattle.log_reader.specs.declared.Found.{Found}
 use Rattle.log_reader.specs.declared.Found.the-variants.{Outside, Record}
-use Rattle.log_reader.specs.declared.Item.{Item}
 use Rattle.words.specs.Words.{number}
 use borrow.Author.Tests.{le-ltb, lt-ltb, ltb-false}
 use lib.Dec.{ltb}
 use lib.ListN.{getD, length}
 use mathlib.Core.Bool.{Bool, cond, false, true}
 use mathlib.Core.List.{List}
-use mathlib.Core.Path.{_∙_, _≡_, ap, ap₂, refl}
+use mathlib.Core.Path.{_∙_, _≡_, ap₂, refl}
 use native.Mathlib.Omega.{arith}
 
 -- the count, and room for all offsets

@@ -6,7 +6,7 @@ use Rattle.log_reader.specs.declared.Found.{Found}
 use Rattle.log_reader.specs.declared.Found.the-variants.{Outside, Record}
 use Rattle.log_reader.specs.declared.Item.{Item}
 use Rattle.words.specs.Words.{number}
-use lib.Dec.{leb, ltb}
+use lib.Dec.{ltb}
 use lib.ListN.{drop, getD, length, take}
 use mathlib.Core.Bool.{cond}
 use mathlib.Core.List.{List}

@@ -5,7 +5,7 @@ use Rattle.log_reader.specs.declared.Found.{Found}
 use Rattle.report.specs.Tally.{tallyFound, tallyFrom, tallyLog}
 use Rattle.report.specs.declared.totals.Totals.{Totals}
 use mathlib.Core.List.{List}
-use mathlib.Core.Path.{_∙_, _≡_, ap, refl, sym}
+use mathlib.Core.Path.{_∙_, _≡_, ap, refl}
 use native.Mathlib.Omega.{arith}
 
 pub tally-first : (log : List ℕ) (n : ℕ) (t : Totals) → tallyFrom log 0 (n - 0) t ≡ tallyFrom log 0 n t

@@ -1,10 +1,10 @@
 -- One year and one month more or less: what the loops over the calendar go by. Assumes nothing.
 use Prim.Native.Nat.{_+_, _-_, _<_, _≤_, suc, ℕ}
-use Rattle.utc.specs.Calendar.{DateOf, Months, Proper, Years, dayNumber, leap, monthDays, monthsDays, yearDays, yearsDays}
+use Rattle.utc.specs.Calendar.{DateOf, Months, Years, dayNumber, leap, monthDays, monthsDays, yearDays, yearsDays}
 use Rattle.utc.specs.declared.Split.{Split}
 use lib.Dec.{eqb}
 use mathlib.Core.Bool.{Bool, cond, false, true}
-use mathlib.Core.Path.{_∙_, _≡_, ap, refl, subst, sym}
+use mathlib.Core.Path.{_≡_, refl, subst}
 use native.Mathlib.Nat.{add-comm, add-sub-cancel-left}
 use native.Mathlib.Numerals.{add-one}
 use native.Mathlib.Omega.{arith}

@@ -2,7 +2,6 @@
 use Rattle.log_reader.specs.Finding.{counted}
 use Rattle.log.specs.Reading.{countOf}
 use lib.ListN.{length}
-use mathlib.Core.Path.{_≡_}
 use Prim.Native.Nat.{_*_, _+_, _<_, _≤_}
 use borrow.Author.Tests.{le-ltb, lt-ltb}
 use native.Mathlib.Omega.{arith}

@@ -1,7 +1,6 @@
 -- `log_reader::end_of` meets its contract.
 use Rattle.log.specs.Reading.{countOf}
-use mathlib.Core.Path.{_≡_}
-use Prim.Native.Nat.{_*_, _+_, _<_, _≤_}
+use Prim.Native.Nat.{_+_, _<_, _≤_}
 use borrow.Author.Tests.{le-ltb, lt-ltb}
 use native.Mathlib.Omega.{arith}
 use borrow.Author.Needs.{needs}

@@ -1,11 +1,6 @@
 -- `log_reader::record_at` meets its contract.
 use mathlib.Core.Path.{_∙_}
 use Rattle.log_reader.proofs.Counted.{found, not-found, some-counted}
-use mathlib.Core.Path.{_≡_}
-use Prim.Native.Nat.{_*_, _+_, _<_, _≤_}
-use Rattle.log_reader.proofs.Counted.{some-counted}
-use Rattle.log_reader.specs.Finding.{foundIn, counted}
-use borrow.Author.Tests.{le-ltb, lt-ltb}
 use native.Mathlib.Omega.{arith}
 use borrow.Author.Needs.{needs}
 use Rattle.log_reader.proofs.record_at.Statement.{statement}

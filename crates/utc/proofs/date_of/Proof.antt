@@ -1,6 +1,5 @@
 -- `utc::date_of` meets its contract.
 use Rattle.utc.proofs.Steps.{dated}
-use native.Mathlib.Omega.{arith}
 use borrow.Author.Needs.{needs}
 use Rattle.utc.proofs.date_of.Statement.{statement}
 use Rattle.utc.proofs.date_of.Tie as tie

@@ -1,7 +1,6 @@
 -- `utc::february` meets its contract.
-use mathlib.Core.Path.{_≡_, ap, sym, _∙_}
+use mathlib.Core.Path.{_∙_, sym}
 use Rattle.utc.specs.Calendar.{monthDays}
-use native.Mathlib.Omega.{arith}
 use borrow.Author.Needs.{needs}
 use Rattle.utc.proofs.february.Statement.{statement}
 use Rattle.utc.proofs.february.Tie as tie

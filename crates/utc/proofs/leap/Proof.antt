@@ -1,8 +1,6 @@
 -- `utc::leap` meets its contract.
 use Rattle.utc.specs.Calendar.{leap}
 use borrow.Author.Tests.{eq-eqb, ne-eqb}
-use borrow.Author.Needs.{needs}
-use native.Mathlib.Omega.{arith}
 use Rattle.utc.proofs.leap.Statement.{statement}
 use Rattle.utc.proofs.leap.Tie as tie
 

@@ -1,8 +1,7 @@
 -- `utc::month_days` meets its contract.
-use mathlib.Core.Path.{_≡_, ap, sym, _∙_}
+use mathlib.Core.Path.{_∙_, ap, sym}
 use Rattle.utc.specs.Calendar.{monthDays}
 use borrow.Author.Tests.{eq-eqb, ne-eqb}
-use native.Mathlib.Omega.{arith}
 use borrow.Author.Needs.{needs}
 use Rattle.utc.proofs.month_days.Statement.{statement}
 use Rattle.utc.proofs.month_days.Tie as tie

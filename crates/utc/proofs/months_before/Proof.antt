@@ -1,7 +1,6 @@
 -- `utc::months_before` meets its contract.
-use mathlib.Core.Path.{ap, _∙_}
+use mathlib.Core.Path.{_∙_, _≡_, ap}
 use Rattle.utc.proofs.Steps.{month-most, months-more}
-use mathlib.Core.Path.{_≡_}
 use Rattle.utc.specs.Calendar.{monthsDays}
 use Prim.Native.Nat.{_*_, _+_, _-_, _≤_}
 use borrow.Author.Needs.{needs}

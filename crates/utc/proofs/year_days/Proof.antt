@@ -1,7 +1,6 @@
 -- `utc::year_days` meets its contract.
-use mathlib.Core.Path.{_≡_, ap, sym, _∙_}
+use mathlib.Core.Path.{_∙_, sym}
 use Rattle.utc.specs.Calendar.{yearDays}
-use native.Mathlib.Omega.{arith}
 use borrow.Author.Needs.{needs}
 use Rattle.utc.proofs.year_days.Statement.{statement}
 use Rattle.utc.proofs.year_days.Tie as tie

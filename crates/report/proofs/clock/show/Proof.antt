@@ -1,7 +1,6 @@
 -- `report::clock::show` meets its contract.
-use mathlib.Core.Path.{_∙_, _≡_, sym}
+use mathlib.Core.Path.{_∙_, sym}
 use Rattle.time.proofs.Judged.{time-judged}
-use native.Mathlib.Omega.{arith}
 use borrow.Author.Needs.{needs}
 use Rattle.report.proofs.clock.show.Statement.{statement}
 use Rattle.report.proofs.clock.show.Tie as tie

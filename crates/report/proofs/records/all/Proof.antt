@@ -1,10 +1,8 @@
 -- `report::records::all` meets its contract.
-use Rattle.report.specs.Tally.{tallyFound}
-use mathlib.Core.Path.{ap}
+use Rattle.report.specs.Tally.{tallyFrom}
+use mathlib.Core.Path.{_≡_}
 use Rattle.report.proofs.Tallying.{tally-first, tally-last, tally-next}
 use Prim.Native.Nat.{_-_, _≤_}
-use mathlib.Core.Path.{_∙_, _≡_, sym}
-use Rattle.report.specs.Tally.{tallyFrom, tallyLog}
 use borrow.Author.Needs.{needs}
 use native.Mathlib.Omega.{arith}
 use Rattle.report.proofs.records.all.Statement.{statement}

@@ -1,7 +1,5 @@
 -- `report::records::one` meets its contract.
-use mathlib.Core.Path.{_∙_, _≡_, sym}
 use Rattle.report.specs.Tally.{tallyFound}
-use native.Mathlib.Omega.{arith}
 use borrow.Author.Needs.{needs}
 use Rattle.report.proofs.records.one.Statement.{statement}
 use Rattle.report.proofs.records.one.Tie as tie

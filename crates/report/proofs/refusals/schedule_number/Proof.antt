@@ -1,6 +1,5 @@
 -- `report::refusals::schedule_number` meets its contract.
 use Rattle.record.specs.Refusals.{paper}
-use native.Mathlib.Omega.{arith}
 use borrow.Author.Needs.{needs}
 use Rattle.report.proofs.refusals.schedule_number.Statement.{statement}
 use Rattle.report.proofs.refusals.schedule_number.Tie as tie

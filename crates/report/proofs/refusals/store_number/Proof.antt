@@ -1,8 +1,5 @@
 -- `report::refusals::store_number` meets its contract.
-use Rattle.rules.specs.Papers.{Paper}
-use mathlib.Core.Path.{_∙_, _≡_, ap, sym}
 use Rattle.store.specs.Refusals.{paper}
-use native.Mathlib.Omega.{arith}
 use borrow.Author.Needs.{needs}
 use Rattle.report.proofs.refusals.store_number.Statement.{statement}
 use Rattle.report.proofs.refusals.store_number.Tie as tie

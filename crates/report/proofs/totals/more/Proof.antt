@@ -1,7 +1,6 @@
 -- `report::totals::more` meets its contract.
 use borrow.Author.Tests.{le-ltb, lt-ltb}
 use Rattle.report.specs.Tally.{more}
-use native.Mathlib.Omega.{arith}
 use borrow.Author.Needs.{needs}
 use Rattle.report.proofs.totals.more.Statement.{statement}
 use Rattle.report.proofs.totals.more.Tie as tie

@@ -1,6 +1,5 @@
 -- `report::totals::Totals::discarded` meets its contract.
 use Rattle.report.specs.Tally.{withDiscarded}
-use native.Mathlib.Omega.{arith}
 use borrow.Author.Needs.{needs}
 use Rattle.report.proofs.totals.Totals.discarded.Statement.{statement}
 use Rattle.report.proofs.totals.Totals.discarded.Tie as tie

@@ -1,6 +1,5 @@
 -- `report::totals::Totals::missing` meets its contract.
 use Rattle.report.specs.Tally.{withMissing}
-use native.Mathlib.Omega.{arith}
 use borrow.Author.Needs.{needs}
 use Rattle.report.proofs.totals.Totals.missing.Statement.{statement}
 use Rattle.report.proofs.totals.Totals.missing.Tie as tie

@@ -1,7 +1,6 @@
 -- `report::totals::Totals::released` meets its contract.
 use borrow.Author.Tests.{eq-eqb, ne-eqb}
 use Rattle.report.specs.Tally.{withReleased}
-use native.Mathlib.Omega.{arith}
 use borrow.Author.Needs.{needs}
 use Rattle.report.proofs.totals.Totals.released.Statement.{statement}
 use Rattle.report.proofs.totals.Totals.released.Tie as tie

@@ -1,7 +1,6 @@
 -- `report::totals::Totals::with` meets its contract.
 use borrow.Author.Tests.{eq-eqb, ne-eqb}
 use Rattle.report.specs.Tally.{tally}
-use native.Mathlib.Omega.{arith}
 use borrow.Author.Needs.{needs}
 use Rattle.report.proofs.totals.Totals.with.Statement.{statement}
 use Rattle.report.proofs.totals.Totals.with.Tie as tie
