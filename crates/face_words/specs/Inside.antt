@@ -1,4 +1,4 @@
--- A reader need not believe this file: only contracts of private functions cite it. An answer by value, and words as they were read.
+-- A reader need not believe this file: no promise of a call of the C face cites it. An answer by value, and words as they were read.
 use Prim.Native.Nat.{_+_, _*_, ℕ}
 use Rattle.record.specs.Record.{timesInRange}
 use Rattle.record.specs.declared.Record.{Record}

@@ -1,4 +1,4 @@
-// Judging rows (refusal 3): in range and in order, in one pass that counts faults and leaves nowhere, so that it can be vectorised.
+// Judging rows (refusal 3): in range and in order, in one pass that counts faults and leaves nowhere: its time does not depend on what the rows hold.
 use crate::ROW;
 ghost use mathlib.Core.Path.{_≡_};
 ghost use Prim.Native.Nat.{_<_, _≤_};

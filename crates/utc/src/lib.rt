@@ -1,4 +1,4 @@
-// Dates in UTC: the date of a day counted from 1 January 1970, the day of a date, and the text of both.
+// Dates in UTC: the date of a day counted from 1 January 1970, and the day of a date.
 ghost use mathlib.Core.Path.{_≡_};
 ghost use Prim.Native.Nat.{_*_, _<_, _≤_};
 ghost use Rattle.utc.specs.Calendar.{DateOf, DayOf, Months, Years, leap as isLeap, monthDays, monthsDays, yearDays, yearsDays};
@@ -143,7 +143,7 @@ fn months_before(y: u64, n: u64) -> u64
     sum
 }
 
-// The day of a date in a year of four digits; 0 where there is no such year, month or day of a month.
+// The day of a date; 0 for a year not from 1970 to 9999, a month not from 1 to 12 or a day not from 1 to 31; of another date that the calendar has not, some number.
 pub fn day_of(d: Date) -> u64
     ensures { λ r. ⌜ DayOf d r ⌝ }
 {
