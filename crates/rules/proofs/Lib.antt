@@ -1,4 +1,5 @@
 -- Laws of the words of specs/, for every crate's proofs.
 pub mod All
+pub mod Cases
 pub mod First
 pub mod Order

@@ -1,8 +1,2 @@
--- The schedule's table.
-pub mod Entries
-pub mod Order
-pub mod Edits
-pub mod Windows
-pub mod Match
-pub mod Faults
-pub mod Shift
+-- The schedule's table, searched by time.
+pub mod Before

@@ -1,0 +1,57 @@
+// The rows of a window of time: one unbroken range, as the rows are in order.
+use crate::Part;
+use crate::TimeWindow;
+use table::below;
+use table::up_to;
+ghost use mathlib.Core.Path.{_≡_};
+ghost use Rattle.rows.specs.Entries.{unpack};
+ghost use Rattle.rows.specs.Order.{Sound};
+ghost use Rattle.selection.specs.Windows.{EndsInRange, Retrieves, endOf, startOf};
+
+// The first row of the window and the number of its rows; row 0 where it has none.
+pub fn rows_in(rows: &[u64], count: usize, w: TimeWindow) -> Part
+    requires { ⌜ Sound (now rows) count ⌝ }
+    requires { ⌜ EndsInRange w ⌝ }
+    ensures { λ r. ⌜ Retrieves w (now (rows .entry)) count (r .first) (r .number) ⌝ }
+{
+    let a = start(rows, count, w);
+    let b = end(rows, count, w);
+    if b <= a {
+        return Part {
+            first: 0,
+            number: 0,
+        };
+    }
+    Part {
+        first: a,
+        number: b - a,
+    }
+}
+
+// How many rows are before the window.
+fn start(rows: &[u64], count: usize, w: TimeWindow) -> usize
+    requires { ⌜ Sound (now rows) count ⌝ }
+    requires { ⌜ EndsInRange w ⌝ }
+    ensures { λ r. ⌜ r ≡ startOf w (unpack count (now (rows .entry))) ⌝ }
+{
+    match w {
+        TimeWindow::All => 0,
+        TimeWindow::FromTo(f, _) => below(rows, count, f),
+        TimeWindow::From(f) => below(rows, count, f),
+        TimeWindow::To(_) => 0,
+    }
+}
+
+// How many rows are not after the window.
+fn end(rows: &[u64], count: usize, w: TimeWindow) -> usize
+    requires { ⌜ Sound (now rows) count ⌝ }
+    requires { ⌜ EndsInRange w ⌝ }
+    ensures { λ r. ⌜ r ≡ endOf w (unpack count (now (rows .entry))) ⌝ }
+{
+    match w {
+        TimeWindow::All => count,
+        TimeWindow::FromTo(_, t) => up_to(rows, count, t),
+        TimeWindow::From(_) => count,
+        TimeWindow::To(t) => up_to(rows, count, t),
+    }
+}

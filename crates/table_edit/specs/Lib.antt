@@ -1,0 +1,3 @@
+-- The schedule's table, changed.
+pub mod Edits
+pub mod Inside
