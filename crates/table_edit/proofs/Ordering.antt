@@ -2,17 +2,17 @@
 -- Assumes nothing.
 use Prim.Native.Nat.{_+_, _<_, _≤_, suc, zero, ℕ}
 use Rattle.rows.proofs.Order.{InRange, drop-ordered, ordered-cons, ordered-make}
-use Rattle.rows.specs.Entries.{Entry, time}
+use Rattle.rows.specs.Entries.{Entry, relaid, time, unpack}
 use Rattle.rows.specs.Order.{orderedFrom}
 use Rattle.rules.proofs.Cases.{le-or-lt}
 use Rattle.table.proofs.Before.{below-head, below-not}
 use Rattle.table.specs.Before.{below}
-use Rattle.table_edit.specs.Edits.{insertAt, insertSorted, without}
+use Rattle.table_edit.specs.Edits.{afterInsert, insertAt, insertSorted, without}
 use borrow.Author.Tests.{le-leb, lt-leb}
 use mathlib.Core.Bool.{Bool, cond, true}
 use mathlib.Core.List.{List, [], _∷_}
 use mathlib.Core.Logic.{⊎-elim}
-use mathlib.Core.Path.{_∙_, _≡_, ap, refl}
+use mathlib.Core.Path.{_∙_, _≡_, ap, refl, sym}
 use native.Mathlib.Nat.{suc-add, zero-add}
 use native.Mathlib.Omega.{arith}
 
@@ -37,6 +37,12 @@ insertSorted-at e (x ∷ es) =
     ∙ rw (below-head (time e + 1) x es (omega arith)) (ap (λ (r : List Entry). x ∷ r) (insertSorted-at e es)))
     (λ (h : time e < time x). insert-here e x es h ∙ rw (below-not (time e + 1) x es (omega arith)))
     (le-or-lt (time x) (time e))
+
+-- the words, where the index is known
+pub insert-is : (w y : List ℕ) (n at : ℕ) (e : Entry) → at ≡ below (time e + 1) (unpack n w) → y ≡ relaid w n (insertAt at e (unpack n w))
+    → y ≡ afterInsert w n e
+insert-is w y n at e h q =
+    q ∙ ap (λ (i : ℕ). relaid w n (insertAt i e (unpack n w))) h ∙ ap (relaid w n) (sym (insertSorted-at e (unpack n w)))
 
 -- an entry in range, put where it belongs, keeps the order
 pub insert-ordered : (t : ℕ) (e : Entry) (es : List Entry) → orderedFrom t es ≡ true → InRange e → t ≤ time e

@@ -5,10 +5,10 @@ use Rattle.rows.proofs.Order.{ordered-cons, ordered-make}
 use Rattle.rows.specs.Entries.{Entry, time}
 use Rattle.rows.specs.Order.{ordered, orderedFrom}
 use Rattle.rules.proofs.Cases.{eq-or-ne, le-or-lt}
-use Rattle.table.proofs.Before.{below-above, below-le, below-under}
-use Rattle.table.specs.Before.{below}
 use Rattle.selection.specs.Match.{none}
 use Rattle.selection.specs.Windows.{filter}
+use Rattle.table.proofs.Before.{below-above, below-le, below-under}
+use Rattle.table.specs.Before.{below}
 use Rattle.table_edit.proofs.Ordering.{insert-here, insert-later, insertSorted-at}
 use Rattle.table_edit.specs.Edits.{insertAt, insertSorted}
 use borrow.Author.Tests.{eq-eqb, ne-eqb}

@@ -13,7 +13,7 @@ use mathlib.Core.Path.{_∙_, _≡_, ap, refl}
 use native.Mathlib.Nat.{zero-add}
 use native.Mathlib.Omega.{arith}
 
-module _ (old : List ℕ) (n : ℕ) (es : List Entry) (room : max n (length es) * width ≤ length old) where
+module _ (old : List ℕ) (n : ℕ) (es : List Entry) where
   -- every word behind the rows that were or are entries is as it was
   pub relaid-behind : (j : ℕ) → max n (length es) * width ≤ j → getD (relaid old n es) j 0 ≡ getD old j 0
   unfolding relaid

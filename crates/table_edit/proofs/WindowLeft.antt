@@ -5,11 +5,11 @@ use Rattle.rows.proofs.Order.{ordered-cons}
 use Rattle.rows.specs.Entries.{Entry, time}
 use Rattle.rows.specs.Order.{ordered, orderedFrom}
 use Rattle.rules.proofs.Cases.{eq-or-ne, le-or-lt}
-use Rattle.table.proofs.Before.{below-head, below-none, below-not}
 use Rattle.selection.proofs.Spans.{before, behind, between, filter-in, filter-out, filter-same, inside}
 use Rattle.selection.proofs.WindowLaws.{end-is, high, low, start-is, window-number, within-is}
-use Rattle.table.specs.Before.{below}
 use Rattle.selection.specs.Windows.{endOf, filter, firstRow, inWindow, outside, startOf, within}
+use Rattle.table.proofs.Before.{below-head, below-none, below-not}
+use Rattle.table.specs.Before.{below}
 use Rattle.table_edit.specs.Edits.{without}
 use borrow.Author.Tests.{eq-eqb, ne-eqb}
 use lib.ListN.{length, take-append-drop}

@@ -3,7 +3,7 @@
 use Prim.Native.Nat.{_*_, _+_, _-_, _≤_, max, ℕ}
 use Rattle.rows.proofs.Rows.{length-unpack, pack-append, pack-drop, pack-take, relaid-at}
 use Rattle.rows.specs.Entries.{Entry, pack, relaid, unpack, width, words}
-use Rattle.table_edit.specs.Edits.{insertAt, without}
+use Rattle.table_edit.specs.Edits.{afterRemove, insertAt, without}
 use Rattle.table_edit.specs.Inside.{cleared, moved}
 use lib.ListN.{drop, length, length-append, length-drop, length-take, replicate, set, take}
 use lib.Seq.{drop-at, drop-drop, drop-paste, length-take-le, paste, sets-eq, take-append-le, take-paste, take-take}
@@ -74,3 +74,8 @@ removed w n f m h l =
     ap (λ (x : List ℕ). x ++ replicate (m * width) 0 ++ drop (f * width + k + m * width) X) (e1 ∙ sym p)
     ∙ ap (λ (x : List ℕ). pack (take f es ++ drop (f + m) es) ++ replicate (m * width) 0 ++ x) e2
     ∙ sym (relaid-at w n (m * width) (n * width) _ (omega arith) (omega arith))
+
+-- step by step
+pub removes : (w x y : List ℕ) (n f m : ℕ) → f + m ≤ n → n * width ≤ length w → x ≡ moved w (f * width) ((f + m) * width) ((n - f - m) * width)
+    → y ≡ cleared x (f * width + (n - f - m) * width) (m * width) → y ≡ afterRemove w n f m
+removes w x y n f m h l p q = q ∙ ap (λ (v : List ℕ). cleared v (f * width + (n - f - m) * width) (m * width)) p ∙ removed w n f m h l

@@ -1,9 +1,6 @@
 -- `table_edit::remove` meets its contract.
 -- Assumes nothing.
-use Prim.Native.Nat.{_*_, _+_, _≤_}
-use Rattle.rows.specs.Entries.{width}
-use Rattle.table_edit.proofs.Written.{removed}
-use lib.ListN.{length}
+use Rattle.table_edit.proofs.Written.{removes}
 use native.Mathlib.Omega.{arith}
 use borrow.Author.Needs.{needs}
 use Rattle.table_edit.proofs.remove.Statement.{statement}
@@ -12,9 +9,8 @@ use Rattle.table_edit.proofs.remove.Tie as tie
 returns : tie.Need-returns
 returns c =
     let a = c .before .before .before .before .before .before .before .before .before .args in
-    let h : a .from + a .n ≤ a .count = omega arith in
-    let l : a .count * width ≤ length (a .rows .now) = omega arith in
-    cc (removed (a .rows .now) (a .count) (a .from) (a .n) h l)
+    removes (a .rows .now) _ _ (a .count) (a .from) (a .n) (omega arith) (omega arith)
+    (c .before .before .before .before .before .before .move-down .ensures) (c .before .before .clear .ensures)
 
 pub remove-spec : {M : Type 1} → statement M
 remove-spec =
