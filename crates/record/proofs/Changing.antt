@@ -2,7 +2,7 @@
 -- Assumes nothing.
 use Prim.Native.Nat.{ℕ}
 use mathlib.Core.Bool.{Bool, false, true}
-use mathlib.Core.Path.{_≡_, _∙_, ap, refl, sym}
+use mathlib.Core.Path.{_≡_, _∙_, ap, refl}
 use Rattle.rules.proofs.Order.{refusal-keeps}
 use Rattle.rules.specs.Papers.{Outcome, Paper, after, says}
 use Rattle.rules.specs.Tests.{unless}
@@ -43,10 +43,6 @@ module _ (t : UnixTime) (r : Record) where
   unfolding clockIn unless says after donePaper paper storePaper
   clock-damaged e = record { answer = rw e; next = rw e }
 
--- a change allows one outcome, and one that refuses keeps the record
-module _ (o : Outcome Record) (r : Record) where
-  pub one-change : (c d : Changed) → Changes o r c → Changes o r d → (donePaper (c .answer) ≡ donePaper (d .answer)) × (c .next ≡ d .next)
-  one-change c d p q = (p .answer ∙ sym (q .answer), p .next ∙ sym (q .next))
-
-  pub change-keeps : (c : Changed) → Changes o r c → (donePaper (c .answer) .number ≡ 0 → ⊥) → c .next ≡ r
-  change-keeps c p n = p .next ∙ refusal-keeps o r (λ x. x) (λ e. n (ap (λ (x : Paper). x .number) (p .answer) ∙ e))
+-- a change that refuses keeps the record
+pub change-keeps : (o : Outcome Record) (r : Record) (c : Changed) → Changes o r c → (donePaper (c .answer) .number ≡ 0 → ⊥) → c .next ≡ r
+change-keeps o r c p n = p .next ∙ refusal-keeps o r (λ x. x) (λ e. n (ap (λ (x : Paper). x .number) (p .answer) ∙ e))

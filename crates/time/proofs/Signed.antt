@@ -1,9 +1,9 @@
 -- The signed seconds, and their unsigned count from -2^42.
 -- Assumes nothing.
 use Prim.Native.Nat.{_-_, _<_, _^_, _≤_, suc, ℕ}
-use Rattle.time.specs.Time.{InRange, biased, far, giga, momentOf, secsInRange, timeOf}
+use Rattle.time.specs.Time.{InRange, biased, far, momentOf, secsInRange, timeOf}
 use borrow.Author.Tests.{le-leb, le-ltb, lt-leb, lt-ltb, ltb-false, ltb-true}
-use lib.Dec.{T, leb→le, le→leb, ltb, ltb→lt, lt→ltb}
+use lib.Dec.{T, leb→le, ltb, ltb→lt}
 use lib.IntN.{+ℤ-negℤ-cancel, _+ℤ_, _-ℤ_, negsuc, pos, ℤ}
 use lib.Signed.{ltZ, mag}
 use mathlib.Core.Bool.{Bool, cond, false, true}
@@ -12,7 +12,6 @@ use mir.Facts.{toZ-ofZ}
 use mir.Syntax.{w64}
 use mir.Val.{SFits, ofZ, toZ}
 use native.Mathlib.Omega.{arith}
-use Rattle.time.specs.declared.Moment.{Moment}
 use Rattle.time.specs.declared.UnixTime.{UnixTime}
 
 pub secs-fit : (z : ℤ) → T (secsInRange z) → SFits w64 z
@@ -80,11 +79,3 @@ moment-back t r = ap (λ (z : ℤ). record { secs = z; nanos = t .nanos }) back
   where
     back : pos (biased (t .secs)) -ℤ pos far ≡ t .secs
     back = ap (λ (y : ℤ). y -ℤ pos far) (sym (biased-is (t .secs) (r .secs))) ∙ +ℤ-negℤ-cancel (t .secs) (pos far)
-
--- the time of a moment in range is in range
-pub time-in-range : (m : Moment) → m .secs ≤ 8796093022208 → m .nanos < giga → InRange (timeOf m)
-time-in-range m h l = record { secs = go (m .secs) h (ltb (m .secs) far) refl; nanos = l }
-  where
-    go : (k : ℕ) → k ≤ 8796093022208 → (b : Bool) → ltb k far ≡ b → T (secsInRange (cond b (negsuc (far - suc k)) (pos (k - far))))
-    go k h true e = lt→ltb (far - suc k) far (omega (arith, ltb-true k far e))
-    go k h false e = le→leb (k - far) far (omega arith)
