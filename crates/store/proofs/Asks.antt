@@ -1,21 +1,21 @@
 -- The calls that change nothing: what they answer, from what the code read.
 use Prim.Native.Nat.{_+_, _<_, _≤_, ℕ}
+use Rattle.address.specs.Address.{addressOf, poolOf, slotOf}
+use Rattle.layout.specs.Judge.{Sound}
+use Rattle.layout.specs.Layout.{slotsAt}
+use Rattle.layout.specs.Limits.{maxSlotSize, storeFree}
 use Rattle.rules.specs.Papers.{Outcome, Paper, after, done, no, refused, says}
 use Rattle.rules.specs.Tests.{unless}
-use Rattle.store.proofs.Find.{find-held, find-no-pool, find-no-slot, find-vacant}
-use Rattle.store.proofs.Judging.{Judges, judging-fine, judging-refused}
+use Rattle.slots.proofs.Find.{find-held, find-no-pool, find-no-slot, find-vacant}
+use Rattle.slots.proofs.Place.{valid-at, valid-pool, valid-slot, valid-yes}
+use Rattle.slots.specs.Inside.{cellOf, spotOf, validated}
+use Rattle.slots.specs.Pools.{Found, find, held, noPool, noSlot, over, vacant}
+use Rattle.slots.specs.View.{bytesAt, part, view}
+use Rattle.store.proofs.Judging.{judging-fine}
 use Rattle.store.proofs.Packets.{Packet, spot-refused}
-use Rattle.store.proofs.Place.{valid-at, valid-pool, valid-slot, valid-yes}
-use Rattle.store.specs.Address.{addressOf, poolOf, slotOf}
 use Rattle.store.specs.Calls.{hasIn, ifHeld, ifNamed, judging, lenIn, packetIn, readIn}
-use Rattle.store.specs.Inside.{cellOf, spotOf, validated}
-use Rattle.store.specs.Judge.{Sound}
-use Rattle.store.specs.Layout.{slotsAt}
-use Rattle.store.specs.Limits.{maxSlotSize, storeFree}
-use Rattle.store.specs.Pools.{Found, Pool, find, held, noPool, noSlot, over, vacant}
 use Rattle.store.specs.Promise.{Finds, Lends, Reads, foundAs, startOf}
 use Rattle.store.specs.Refusals.{lengthPaper, paper, presencePaper}
-use Rattle.store.specs.View.{bytesAt, part, view}
 use borrow.Author.Tests.{le-leb, lt-leb, ltb-false, ltb-true}
 use lib.Dec.{ltb}
 use lib.ListN.{getD, length, take}
@@ -25,37 +25,19 @@ use mathlib.Core.List.{List, [], _∷_}
 use mathlib.Core.Logic.{_⊎_, inl, inr, ⊎-elim}
 use mathlib.Core.Path.{_∙_, _≡_, ap, ap₂, refl, subst, sym}
 use native.Mathlib.Omega.{arith}
-use Rattle.store.specs.declared.Setup.{Setup}
+use Rattle.layout.specs.declared.Setup.{Setup}
 use Rattle.store.specs.declared.Span.{Span}
-use Rattle.store.specs.declared.layout.Cell.{Cell}
-use Rattle.store.specs.declared.StoreRefusal.{StoreRefusal}
-use Rattle.store.specs.declared.StoreRefusal.the-variants.{BufferTooSmall}
-use Rattle.store.specs.declared.search.Spot.{Spot}
-use Rattle.store.specs.declared.search.Spot.the-variants as Sp
+use Rattle.slots.specs.declared.Cell.{Cell}
+use Rattle.slots.specs.declared.StoreRefusal.{StoreRefusal}
+use Rattle.slots.specs.declared.StoreRefusal.the-variants.{BufferTooSmall}
+use Rattle.slots.specs.declared.search.Spot.{Spot}
+use Rattle.slots.specs.declared.search.Spot.the-variants as Sp
 use Rattle.store.specs.declared.Verdict.{Verdict}
 use Rattle.store.specs.declared.Verdict.the-variants as Ve
 use Rattle.store.specs.declared.Whereabouts.{Whereabouts}
 use Rattle.store.specs.declared.Whereabouts.the-variants as Wh
 use Rattle.store.specs.declared.Length.the-variants as Le
 use Rattle.store.specs.declared.Presence.the-variants as Pr
-
--- a call that answers alone
-module _ {A : Type 0} (su : Setup) (st le : List ℕ) (call : List Pool → Outcome A) where
-  pub asks-fine : (p : Paper) → Sound su st le → p ≡ says (call (view su st le)) → p ≡ says (judging su st le call)
-  asks-fine p s q = rw (judging-fine su st le call s) q
-
-  pub asks-refused : (v : Verdict) (e : StoreRefusal) → Judges su (length st) le v → v ≡ Ve.Refused e → paper e ≡ says (judging su st le call)
-  unfolding says
-  asks-refused v e j q = rw (judging-refused su st le call v e j q)
-
-pub reads-fine : (su : Setup) (st le : List ℕ) (call : List Pool → Outcome (List ℕ)) (buf : List ℕ) (p : Paper) (buf′ : List ℕ) → Sound su st le
-    → Reads (call (view su st le)) buf p buf′ → Reads (judging su st le call) buf p buf′
-reads-fine su st le call buf p buf′ s r = rw (judging-fine su st le call s) r
-
-pub reads-refused : (su : Setup) (st le : List ℕ) (call : List Pool → Outcome (List ℕ)) (buf : List ℕ) (v : Verdict) (e : StoreRefusal)
-    → Judges su (length st) le v → v ≡ Ve.Refused e → Reads (judging su st le call) buf (paper e) buf
-unfolding says after
-reads-refused su st le call buf v e j q = rw (judging-refused su st le call v e j q) (record { answer = refl; buffer = refl })
 
 -- find
 module _ (su : Setup) (st le : List ℕ) (a : ℕ) where
@@ -137,12 +119,9 @@ module _ (su : Setup) (st le : List ℕ) (a : ℕ) where
   modify-at r s f q = let g = subst (λ (x : Whereabouts). Finds su st le a x) q f in rw (← (g .same))
 
   -- the part that is lent
-  lends-none : (p : Paper) → judging su st le (λ ps. packetIn ps a) ≡ refused p → Lends su st le a (record { from = 0; len = 0 })
+  pub lends-none : (p : Paper) → judging su st le (λ ps. packetIn ps a) ≡ refused p → Lends su st le a (record { from = 0; len = 0 })
   unfolding after part
   lends-none p q = record { bytes = rw q; start = rw q; inside = omega arith }
-
-  pub lends-judge : (v : Verdict) (e : StoreRefusal) → Judges su (length st) le v → v ≡ Ve.Refused e → Lends su st le a (record { from = 0; len = 0 })
-  lends-judge v e j q = lends-none (paper e) (judging-refused su st le (λ ps. packetIn ps a) v e j q)
 
   pub lends-refused : Sound su st le → (r : Whereabouts) (e : StoreRefusal) → Finds su st le a r → r ≡ Wh.Refused e → Lends su st le a (record { from = 0; len = 0 })
   unfolding foundAs

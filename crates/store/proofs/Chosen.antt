@@ -1,21 +1,22 @@
 -- What is known where room was chosen, or refused.
 use Prim.Native.Nat.{_*_, _+_, _<_, _≤_, suc, zero, ℕ}
+use Rattle.address.specs.Address.{addressOf}
+use Rattle.layout.proofs.Bounds.{bounds}
+use Rattle.layout.specs.Judge.{Sound}
+use Rattle.layout.specs.Layout.{bytesBefore, rowsBefore, sizeAt, slotsAt}
+use Rattle.layout.specs.Limits.{storeFree}
 use Rattle.rules.specs.Papers.{Paper, no, refused, says}
-use Rattle.store.proofs.Bounds.{bounds}
+use Rattle.slots.proofs.Find.{find-held, find-no-pool, find-no-slot}
+use Rattle.slots.specs.Inside.{cellOf, roomOf}
+use Rattle.slots.specs.Pools.{Choice, Found, Pool, Slot, allTaken, choose, findAt, findSlot, free, held, into, lowest, next, noPool, noSlot, over, pick, shift, spillInto, taken, tooLarge, vacant}
+use Rattle.slots.specs.View.{each, part, poolIn, put, view}
 use Rattle.store.proofs.Edit.{leaves-fill}
-use Rattle.store.proofs.Find.{find-held, find-no-pool, find-no-slot}
 use Rattle.store.proofs.Promises.{does-done, does-refused}
 use Rattle.store.proofs.Wrote.{Within, within}
-use Rattle.store.specs.Address.{addressOf}
 use Rattle.store.specs.Calls.{addIn, place}
-use Rattle.store.specs.Inside.{cellOf, roomOf}
-use Rattle.store.specs.Judge.{Sound}
-use Rattle.store.specs.Layout.{bytesBefore, rowsBefore, sizeAt, slotsAt}
-use Rattle.store.specs.Limits.{storeFree}
-use Rattle.store.specs.Pools.{Choice, Found, Pool, Slot, allTaken, choose, editAt, fill, findAt, findSlot, free, held, into, lowest, next, noPool, noSlot, over, pick, shift, spillInto, taken, tooLarge, vacant}
+use Rattle.store.specs.Edits.{editAt, fill}
 use Rattle.store.specs.Promise.{Does}
 use Rattle.store.specs.Refusals.{addedPaper, paper}
-use Rattle.store.specs.View.{each, part, poolIn, put, view}
 use borrow.Author.Tests.{eqb-false, eqb-true, leb-true, ltb-false, ltb-true}
 use lib.Dec.{eqb, leb, ltb}
 use lib.ListN.{getD, length, set}
@@ -25,11 +26,11 @@ use mathlib.Core.Option.{Option, none, some}
 use mathlib.Core.Path.{_∙_, _≡_, ap, refl, subst, sym}
 use native.Mathlib.Nat.{not-suc-le-zero}
 use native.Mathlib.Omega.{arith}
-use Rattle.store.specs.declared.Setup.{Setup}
-use Rattle.store.specs.declared.layout.Cell.{Cell}
-use Rattle.store.specs.declared.StoreRefusal.{StoreRefusal}
-use Rattle.store.specs.declared.search.Spot.{Spot}
-use Rattle.store.specs.declared.search.Spot.the-variants.{Refused, At}
+use Rattle.layout.specs.declared.Setup.{Setup}
+use Rattle.slots.specs.declared.Cell.{Cell}
+use Rattle.slots.specs.declared.StoreRefusal.{StoreRefusal}
+use Rattle.slots.specs.declared.search.Spot.{Spot}
+use Rattle.slots.specs.declared.search.Spot.the-variants.{Refused, At}
 use Rattle.store.specs.declared.Added.the-variants as Ad
 
 -- the slot size of a subpool

@@ -7,9 +7,9 @@ use lib.Dec.{eqb}
 use mathlib.Core.Bool.{false}
 use mathlib.Core.List.{List}
 use mathlib.Core.Path.{_≡_, ap, refl}
-use Rattle.store.specs.declared.StoreRefusal.{StoreRefusal}
-use Rattle.store.specs.declared.StoreRefusal.the-variants.{BadSetup, BadBuffers, StateDamaged, DataTooLarge, StoreFull, InvalidStoreId, DataDoesNotExist, BufferTooSmall}
-use Rattle.store.specs.declared.StoreIdError.the-variants.{InvalidSubpool, InvalidPacketIdx}
+use Rattle.slots.specs.declared.StoreRefusal.{StoreRefusal}
+use Rattle.slots.specs.declared.StoreRefusal.the-variants.{BadSetup, BadBuffers, StateDamaged, DataTooLarge, StoreFull, InvalidStoreId, DataDoesNotExist, BufferTooSmall}
+use Rattle.slots.specs.declared.StoreIdError.the-variants.{InvalidSubpool, InvalidPacketIdx}
 
 -- a refusal has a number
 pub numbered : (e : StoreRefusal) → eqb (paper e .number) 0 ≡ false

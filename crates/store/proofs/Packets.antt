@@ -1,18 +1,18 @@
 -- What is known where the search for an address has found a packet, or refused.
 use Prim.Native.Nat.{_+_, _<_, _≤_, ℕ}
+use Rattle.address.specs.Address.{poolOf, slotOf}
+use Rattle.layout.proofs.Bounds.{bounds}
+use Rattle.layout.specs.Judge.{Sound}
+use Rattle.layout.specs.Layout.{rowsBefore, slotsAt}
+use Rattle.layout.specs.Limits.{storeFree}
 use Rattle.rules.specs.Papers.{Outcome, Paper, no, refused}
-use Rattle.store.proofs.Bounds.{bounds}
-use Rattle.store.proofs.Find.{find-held, find-no-pool, find-no-slot, find-vacant}
+use Rattle.slots.proofs.Find.{find-held, find-no-pool, find-no-slot, find-vacant}
+use Rattle.slots.specs.Inside.{cellOf, spotOf}
+use Rattle.slots.specs.Pools.{Found, find, findAt, held, noPool, noSlot, vacant}
+use Rattle.slots.specs.View.{bytesAt, part, view}
 use Rattle.store.proofs.Wrote.{Within, within}
-use Rattle.store.specs.Address.{poolOf, slotOf}
 use Rattle.store.specs.Calls.{ifHeld, ifNamed}
-use Rattle.store.specs.Inside.{cellOf, spotOf}
-use Rattle.store.specs.Judge.{Sound}
-use Rattle.store.specs.Layout.{rowsBefore, slotsAt}
-use Rattle.store.specs.Limits.{storeFree}
-use Rattle.store.specs.Pools.{Found, find, findAt, held, noPool, noSlot, vacant}
 use Rattle.store.specs.Refusals.{paper}
-use Rattle.store.specs.View.{bytesAt, part, view}
 use borrow.Author.Tests.{ltb-false, ltb-true}
 use lib.Dec.{ltb}
 use lib.ListN.{getD, length}
@@ -21,17 +21,16 @@ use mathlib.Core.List.{List, []}
 use mathlib.Core.Logic.{⊎-elim}
 use mathlib.Core.Path.{_∙_, _≡_, ap, refl, subst, sym}
 use native.Mathlib.Omega.{arith}
-use Rattle.store.specs.declared.Setup.{Setup}
-use Rattle.store.specs.declared.layout.Cell.{Cell}
-use Rattle.store.specs.declared.StoreRefusal.{StoreRefusal}
-use Rattle.store.specs.declared.search.Spot.{Spot}
-use Rattle.store.specs.declared.search.Spot.the-variants.{Refused, At}
+use Rattle.layout.specs.declared.Setup.{Setup}
+use Rattle.slots.specs.declared.Cell.{Cell}
+use Rattle.slots.specs.declared.StoreRefusal.{StoreRefusal}
+use Rattle.slots.specs.declared.search.Spot.{Spot}
+use Rattle.slots.specs.declared.search.Spot.the-variants.{Refused, At}
 
 pub record Packet (su : Setup) (st le : List ℕ) (a : ℕ) (c : Cell) : Type 0 where
   pub is : c ≡ cellOf su (poolOf a) (slotOf a)
   pub inside : Within su (length st) le c
   pub there : find (view su st le) a ≡ held (getD le (c .row) 0) (part (c .from) (c .size) st)
-  pub not-free : getD le (c .row) 0 ≡ storeFree → ⊥
   pub short : getD le (c .row) 0 ≤ c .size
 
 held-is : (x : Found) (n : ℕ) (b : List ℕ) → x ≡ noPool → x ≡ held n b → ⊥
@@ -86,7 +85,6 @@ module _ (su : Setup) (st le : List ℕ) (fine : Sound su st le) (a : ℕ) where
         is = refl;
         inside = w;
         there = find-held su st le (poolOf a) (slotOf a) (h .0) (h .1) (h .2);
-        not-free = h .2;
         short = ⊎-elim (λ f. absurd (h .2 f)) (λ l. l) (w .len-ok);
       }
 

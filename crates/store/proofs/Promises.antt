@@ -1,29 +1,30 @@
 -- The promises, from what the code did to the lists.
 use Prim.Native.Nat.{_≤_, ℕ}
+use Rattle.address.specs.Address.{poolOf, slotOf}
+use Rattle.layout.proofs.Bounds.{bounds}
+use Rattle.layout.specs.Judge.{Sound}
+use Rattle.layout.specs.Layout.{allRows}
+use Rattle.layout.specs.Limits.{storeFree}
 use Rattle.rules.specs.Papers.{Outcome, Paper, after, done, no, refused, says}
-use Rattle.store.proofs.Bounds.{bounds}
+use Rattle.slots.specs.Inside.{fits, spotOf}
+use Rattle.slots.specs.Pools.{Pool, find}
+use Rattle.slots.specs.View.{Leaves, lensWith, put, storeWith, view}
 use Rattle.store.proofs.Edit.{leaves-wipe}
-use Rattle.store.proofs.Judging.{Judges, judging-fine, judging-refused}
+use Rattle.store.proofs.Judging.{judging-fine}
 use Rattle.store.proofs.Laid.{leaves-same, lens-laid, same-lens, same-store, store-laid}
 use Rattle.store.proofs.Packets.{Packet, held-inside, spot-refused}
-use Rattle.store.specs.Address.{poolOf, slotOf}
 use Rattle.store.specs.Calls.{deleteIn, ifHeld, ifNamed, judging}
-use Rattle.store.specs.Inside.{fits, spotOf}
-use Rattle.store.specs.Judge.{Sound}
-use Rattle.store.specs.Layout.{allRows}
-use Rattle.store.specs.Limits.{storeFree}
-use Rattle.store.specs.Pools.{Pool, edit, find, wipe}
+use Rattle.store.specs.Edits.{edit, wipe}
 use Rattle.store.specs.Promise.{Does, Writes}
 use Rattle.store.specs.Refusals.{deletedPaper, paper}
-use Rattle.store.specs.View.{Leaves, lensWith, put, storeWith, view}
 use lib.ListN.{length, replicate, set}
 use mathlib.Core.List.{List, []}
-use mathlib.Core.Path.{_∙_, _≡_, refl, sym}
-use Rattle.store.specs.declared.Setup.{Setup}
-use Rattle.store.specs.declared.layout.Cell.{Cell}
-use Rattle.store.specs.declared.StoreRefusal.{StoreRefusal}
-use Rattle.store.specs.declared.search.Spot.{Spot}
-use Rattle.store.specs.declared.search.Spot.the-variants.{Refused}
+use mathlib.Core.Path.{_∙_, _≡_, sym}
+use Rattle.layout.specs.declared.Setup.{Setup}
+use Rattle.slots.specs.declared.Cell.{Cell}
+use Rattle.slots.specs.declared.StoreRefusal.{StoreRefusal}
+use Rattle.slots.specs.declared.search.Spot.{Spot}
+use Rattle.slots.specs.declared.search.Spot.the-variants.{Refused}
 use Rattle.store.specs.declared.Verdict.{Verdict}
 use Rattle.store.specs.declared.Verdict.the-variants as Ve
 use Rattle.store.specs.declared.Deleted.the-variants as D
@@ -52,11 +53,6 @@ module _ (su : Setup) (st le st′ le′ : List ℕ) (fits : allRows su ≤ leng
 
 -- a public call: judged first
 module _ (su : Setup) (st le : List ℕ) (call : List Pool → Outcome (List Pool)) where
-  pub writes-refused : (v : Verdict) (e : StoreRefusal) → Judges su (length st) le v → v ≡ Ve.Refused e
-      → Writes su st le (judging su st le call) (paper e) st le
-  unfolding says after
-  writes-refused v e j q = rw (judging-refused su st le call v e j q) (record { answer = refl; store = refl; lens = refl })
-
   pub writes : (p : Paper) (st′ le′ : List ℕ) → Sound su st le → Does su st le call p st′ le′ → Writes su st le (judging su st le call) p st′ le′
   writes p st′ le′ s d =
       rw (judging-fine su st le call s)

@@ -1,30 +1,29 @@
 -- A fresh start: the lists that the code fills stand for fresh subpools.
 use Prim.Native.Nat.{_*_, _+_, _-_, _<_, _≤_, suc, zero, ℕ}
+use Rattle.layout.proofs.Bounds.{sized-fits}
+use Rattle.layout.proofs.Layouts.{bytes-within, rows-within}
+use Rattle.layout.specs.Judge.{Sized, sized}
+use Rattle.layout.specs.Layout.{allBytes, allRows, bytesBefore, rowsBefore, sizeAt, slotsAt}
+use Rattle.layout.specs.Limits.{storeFree}
 use Rattle.rules.specs.Papers.{after, says}
 use Rattle.rules.specs.Tests.{unless}
-use Rattle.store.proofs.Bounds.{sized-fits}
+use Rattle.slots.proofs.Find.{slot-free}
+use Rattle.slots.specs.Pools.{Slot, free}
+use Rattle.slots.specs.View.{Leaves, bytesAt, each, lenAt, part, put, slotIn, view}
 use Rattle.store.proofs.Edit.{each-cong}
-use Rattle.store.proofs.Find.{slot-free}
 use Rattle.store.proofs.Laid.{lens-laid, store-laid}
-use Rattle.store.proofs.Layouts.{bytes-within, rows-within}
 use Rattle.store.proofs.Slots.{front}
 use Rattle.store.specs.Calls.{freshIn, freshPools}
-use Rattle.store.specs.Judge.{Sized, buffersOk, setupOk, sized}
-use Rattle.store.specs.Layout.{allBytes, allRows, bytesBefore, rowsBefore, sizeAt, slotsAt}
-use Rattle.store.specs.Limits.{storeFree}
-use Rattle.store.specs.Pools.{Slot, free}
 use Rattle.store.specs.Promise.{Writes}
-use Rattle.store.specs.Refusals.{paper, startedPaper}
-use Rattle.store.specs.View.{Leaves, bytesAt, each, lenAt, part, put, slotIn, view}
+use Rattle.store.specs.Refusals.{startedPaper}
 use lib.ListN.{List·getD-append, drop, getD, getD-replicate, length, length-append, length-drop, length-replicate, replicate, take}
 use lib.Seq.{drop-at}
-use mathlib.Core.Bool.{false, true}
 use mathlib.Core.List.{List, _++_, _∷_}
 use mathlib.Core.Path.{_∙_, _≡_, ap, ap₂, refl, sym}
 use native.Mathlib.Nat.{le-of-suc-le-suc, mul-le-mul-right, not-suc-le-zero, sub-zero}
 use native.Mathlib.Omega.{arith}
-use Rattle.store.specs.declared.Setup.{Setup}
-use Rattle.store.specs.declared.StoreRefusal.the-variants.{BadSetup, BadBuffers}
+use Rattle.layout.specs.declared.Setup.{Setup}
+use Rattle.slots.specs.declared.StoreRefusal.the-variants.{BadSetup, BadBuffers}
 use Rattle.store.specs.declared.Started.the-variants as St
 
 take-repeated : (z n v : ℕ) → z ≤ n → take z (replicate n v) ≡ replicate z v
@@ -100,13 +99,3 @@ module _ (su : Setup) (st le : List ℕ) (s : Sized su st le) where
         store = store-laid su st le (freshPools su) st′ le′ l;
         lens = lens-laid su st le (freshPools su) st′ le′ l (sized-fits s .2);
       })
-
-module _ (su : Setup) (st le : List ℕ) where
-  pub fresh-setup : setupOk su ≡ false → Writes su st le (freshIn su st le) (startedPaper (St.Refused BadSetup)) st le
-  unfolding freshIn sized unless says after startedPaper paper
-  fresh-setup q = rw q (record { answer = refl; store = refl; lens = refl })
-
-  pub fresh-buffers : setupOk su ≡ true → buffersOk su (length st) (length le) ≡ false
-      → Writes su st le (freshIn su st le) (startedPaper (St.Refused BadBuffers)) st le
-  unfolding freshIn sized unless says after startedPaper paper
-  fresh-buffers q r = rw (q, r) (record { answer = refl; store = refl; lens = refl })

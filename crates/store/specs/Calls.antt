@@ -1,17 +1,18 @@
 -- What each call comes to, in the paper's numbers and by the store's rules.
 use Prim.Native.Nat.{ℕ}
+use Rattle.address.specs.Address.{addressOf, poolOf, slotOf}
+use Rattle.layout.specs.Judge.{judged, sized}
+use Rattle.layout.specs.Layout.{sizeAt, slotsAt}
 use Rattle.rules.specs.Papers.{Outcome, done, no, refused}
 use Rattle.rules.specs.Tests.{unless}
-use Rattle.store.specs.Address.{addressOf, poolOf, slotOf}
-use Rattle.store.specs.Judge.{judged, sized}
-use Rattle.store.specs.Layout.{sizeAt, slotsAt}
-use Rattle.store.specs.Pools.{Choice, Found, Pool, allTaken, choose, edit, editAt, fill, find, free, held, into, noPool, noSlot, over, tooLarge, vacant, wipe}
-use Rattle.store.specs.View.{each, view}
+use Rattle.slots.specs.Pools.{Choice, Found, Pool, allTaken, choose, find, free, held, into, noPool, noSlot, over, tooLarge, vacant}
+use Rattle.slots.specs.View.{each, view}
+use Rattle.store.specs.Edits.{edit, editAt, fill, wipe}
 use lib.Dec.{leb}
 use lib.ListN.{length, replicate, take}
 use mathlib.Core.Bool.{Bool}
 use mathlib.Core.List.{List, [], _∷_}
-use Rattle.store.specs.declared.Setup.{Setup}
+use Rattle.layout.specs.declared.Setup.{Setup}
 
 -- 16 and 17, and else what a free slot gives, or what f makes of the packet
 unfoldable pub ifNamed : {A : Type 0} → ℕ → Found → Outcome A → (ℕ → List ℕ → Outcome A) → Outcome A

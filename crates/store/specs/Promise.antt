@@ -1,17 +1,17 @@
 -- What the calls promise: public calls by equations for the lent lists, judged calls by what the lists stand for.
 use Prim.Native.Nat.{_*_, _+_, _≤_, ℕ}
+use Rattle.address.specs.Address.{poolOf, slotOf}
+use Rattle.layout.specs.Layout.{bytesBefore, sizeAt}
+use Rattle.layout.specs.Limits.{maxSlotSize}
 use Rattle.rules.specs.Papers.{Outcome, Paper, after, done, refused, says}
-use Rattle.store.specs.Address.{poolOf, slotOf}
+use Rattle.slots.specs.Pools.{Pool}
+use Rattle.slots.specs.View.{Leaves, lensWith, part, storeWith, view}
 use Rattle.store.specs.Calls.{judging, packetIn}
-use Rattle.store.specs.Layout.{bytesBefore, sizeAt}
-use Rattle.store.specs.Limits.{maxSlotSize}
-use Rattle.store.specs.Pools.{Pool}
 use Rattle.store.specs.Refusals.{paper}
-use Rattle.store.specs.View.{Leaves, lensWith, part, storeWith, view}
 use lib.ListN.{length}
 use mathlib.Core.List.{List, [], _∷_}
 use mathlib.Core.Path.{_≡_}
-use Rattle.store.specs.declared.Setup.{Setup}
+use Rattle.layout.specs.declared.Setup.{Setup}
 use Rattle.store.specs.declared.Span.{Span}
 use Rattle.store.specs.declared.Whereabouts.{Whereabouts}
 use Rattle.store.specs.declared.Whereabouts.the-variants as W

@@ -2,11 +2,9 @@
 ghost use mathlib.Core.Path.{_≡_};
 ghost use Prim.Native.Nat.{ℕ, _+_, _*_, _-_, _≤_, _<_};
 ghost use lib.ListN.{length};
-ghost use Rattle.store.specs.Limits.{maxSubpools};
-ghost use Rattle.store.specs.Layout.{allRows, rowOf};
-ghost use Rattle.store.specs.Judge.{Sized, Sound};
+ghost use Rattle.layout.specs.Judge.{Sized, Sound};
 ghost use Rattle.store.specs.Refusals.{deletedPaper, addedPaper, lengthPaper, presencePaper};
-ghost use Rattle.store.specs.View.{Leaves, view};
+ghost use Rattle.slots.specs.View.{Leaves, view};
 ghost use Rattle.store.specs.Calls.{deleteIn, addIn, readIn, packetIn, hasIn, lenIn, freshPools};
 ghost use Rattle.rules.specs.Papers.{says};
 ghost use Rattle.store.specs.Promise.{Does, Reads, Finds, Lends};
@@ -14,16 +12,15 @@ use crate::Added;
 use crate::Deleted;
 use crate::Length;
 use crate::Presence;
-use crate::STORE_FREE;
-use crate::Setup;
 use crate::Span;
-use crate::StaticPoolAddr;
-use crate::StoreRefusal;
 use crate::Whereabouts;
-use crate::bytes;
-use crate::layout;
-use crate::search;
-use crate::search::Spot;
+use address::StaticPoolAddr;
+use layout::STORE_FREE;
+use layout::Setup;
+use slots::StoreRefusal;
+use slots::bytes;
+use slots::search;
+use slots::search::Spot;
 
 pub fn add(setup: Setup, store: &mut [u8], lens: &mut [u16], packet: &[u8]) -> Added
     requires { ⌜ Sound setup (now store) (now lens) ⌝ }
@@ -203,30 +200,4 @@ pub fn fresh(setup: Setup, store: &mut [u8], lens: &mut [u16])
     let rows = layout::rows_before(setup, n);
     bytes::zero_fill(&mut store[0..all]);
     bytes::mark_free(&mut lens[0..rows]);
-}
-
-// How many rows of the length table the setup has.
-pub fn rows(setup: Setup) -> usize
-    requires { ⌜ setup .pools ≤ maxSubpools ⌝ }
-    ensures { λ r. ⌜ r ≡ allRows setup ⌝ }
-{
-    layout::rows_before(setup, setup.pools)
-}
-
-// The row of the slot that an address names; the number of all rows where the setup has none.
-pub fn row_of(setup: Setup, addr: u64) -> usize
-    requires { ⌜ setup .pools ≤ maxSubpools ⌝ }
-    ensures { λ r. ⌜ r ≡ rowOf setup addr ⌝ }
-{
-    let a = StaticPoolAddr::decode(addr);
-    let k = layout::wide(a.pool_idx);
-    let s = layout::wide(a.packet_idx);
-    let n = setup.pools;
-    if n <= k {
-        return rows(setup);
-    }
-    if layout::slots_at(setup, k) <= s {
-        return rows(setup);
-    }
-    layout::rows_before(setup, k) + s
 }

@@ -1,6 +1,6 @@
 -- `store::judged::fresh` meets its contract.
-use Rattle.store.proofs.Bounds.{sized-fits}
-use Rattle.store.proofs.Lists.{front-back, front-filled}
+use Rattle.layout.proofs.Bounds.{sized-fits}
+use Rattle.slots.proofs.Lists.{front-back, front-filled}
 use Rattle.store.proofs.Start.{fresh-leaves}
 use mathlib.Core.Path.{_∙_}
 use native.Mathlib.Omega.{arith}

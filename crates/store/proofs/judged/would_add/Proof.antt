@@ -1,11 +1,10 @@
 -- `store::judged::would_add` meets its contract: it searches as `add` does.
 -- Assumes nothing.
-use mathlib.Core.Path.{_∙_, sym}
-use native.Mathlib.Omega.{arith}
-use lib.ListN.{length}
-use borrow.Author.Needs.{needs}
-use Rattle.store.proofs.Bounds.{bounds}
+use Rattle.layout.proofs.Bounds.{bounds}
 use Rattle.store.proofs.Chosen.{Room, add-refused, add-says, room-found}
+use lib.ListN.{length}
+use native.Mathlib.Omega.{arith}
+use borrow.Author.Needs.{needs}
 use Rattle.store.proofs.judged.would_add.Statement.{statement}
 use Rattle.store.proofs.judged.would_add.Tie as tie
 

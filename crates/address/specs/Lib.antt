@@ -1,0 +1,2 @@
+-- Store addresses.
+pub mod Address

@@ -1,0 +1,5 @@
+-- The facts by which the setup's functions are proved.
+pub mod Layouts
+pub mod Faults
+pub mod Bounds
+pub mod RowOf

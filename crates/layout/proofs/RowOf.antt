@@ -1,0 +1,79 @@
+-- The row of an address: the cases of its rule, and whose row a row is.
+-- Assumes nothing.
+use Prim.Native.Nat.{_+_, _-_, _<_, _≤_, suc, zero, ℕ}
+use Rattle.address.specs.Address.{poolOf, slotOf}
+use Rattle.layout.proofs.Layouts.{rows-within}
+use Rattle.layout.specs.Layout.{allRows, rowOf, rowsBefore, slotsAt}
+use Rattle.rules.specs.Tests.{unless}
+use borrow.Author.Tests.{le-ltb, lt-ltb, ltb-false, ltb-true}
+use lib.Dec.{ltb}
+use mathlib.Core.Bool.{Bool, false, true}
+use mathlib.Core.Path.{_∙_, _≡_, ap₂, refl, sym}
+use native.Mathlib.Nat.{not-suc-le-zero}
+use native.Mathlib.Omega.{arith}
+use Rattle.layout.specs.declared.Setup.{Setup}
+
+-- the setup has the slot that an address names
+pub record Named (su : Setup) (a : ℕ) : Type 0 where
+  pub pool : poolOf a < su .pools
+  pub slot : slotOf a < slotsAt su (poolOf a)
+
+module _ (su : Setup) (a : ℕ) where
+  pub row-no-pool : su .pools ≤ poolOf a → rowOf su a ≡ allRows su
+  unfolding rowOf unless
+  row-no-pool l = rw (le-ltb _ _ l)
+
+  pub row-no-slot : poolOf a < su .pools → slotsAt su (poolOf a) ≤ slotOf a → rowOf su a ≡ allRows su
+  unfolding rowOf unless
+  row-no-slot l m = rw (lt-ltb _ _ l, le-ltb _ _ m)
+
+  pub row-named : Named su a → rowOf su a ≡ rowsBefore su (poolOf a) + slotOf a
+  unfolding rowOf unless
+  row-named n = rw (lt-ltb _ _ (n .pool), lt-ltb _ _ (n .slot))
+
+  pub row-below : Named su a → rowOf su a < allRows su
+  row-below n = let r = row-named n in let h = rows-within su (poolOf a) (su .pools) (n .pool) in let s = n .slot in omega arith
+
+  -- a row below all is that of a slot in the setup
+  pub below-named : rowOf su a < allRows su → Named su a
+  below-named h = go (ltb (poolOf a) (su .pools)) refl
+    where
+      in-pool : (b : Bool) → ltb (slotOf a) (slotsAt su (poolOf a)) ≡ b → poolOf a < su .pools → Named su a
+      in-pool true t l = record { pool = l; slot = ltb-true _ _ t }
+      in-pool false t l = let e = row-no-slot l (ltb-false _ _ t) in absurd (omega arith)
+
+      go : (b : Bool) → ltb (poolOf a) (su .pools) ≡ b → Named su a
+      go true t = in-pool (ltb (slotOf a) (slotsAt su (poolOf a))) refl (ltb-true _ _ t)
+      go false t = let e = row-no-pool (ltb-false _ _ t) in absurd (omega arith)
+
+-- copies of the decoded numbers, as the search has them
+module _ (su : Setup) (a k s r : ℕ) (p : k ≡ poolOf a) (q : s ≡ slotOf a) where
+  pub row-is-1 : su .pools ≤ k → r ≡ allRows su → r ≡ rowOf su a
+  row-is-1 l e = e ∙ sym (row-no-pool su a (rw p at l))
+
+  pub row-is-2 : k < su .pools → slotsAt su k ≤ s → r ≡ allRows su → r ≡ rowOf su a
+  row-is-2 l m e = e ∙ sym (row-no-slot su a (rw p at l) (rw (p, q) at m))
+
+  pub row-is-3 : k < su .pools → s < slotsAt su k → r ≡ rowsBefore su k + s → r ≡ rowOf su a
+  row-is-3 l m e = e ∙ ap₂ (λ (x y : ℕ). rowsBefore su x + y) p q ∙ sym (row-named su a (record { pool = rw p at l; slot = rw (p, q) at m }))
+
+-- each row of the setup is some slot's
+pub record Owner (su : Setup) (n r : ℕ) : Type 0 where
+  pub pool : ℕ
+  pub slot : ℕ
+  pub before : pool < n
+  pub inside : slot < slotsAt su pool
+  pub at : rowsBefore su pool + slot ≡ r
+
+pub owner : (su : Setup) (n r : ℕ) → r < rowsBefore su n → Owner su n r
+unfolding rowsBefore
+owner su zero r h = absurd (not-suc-le-zero h)
+owner su (suc n) r h = go (ltb r (rowsBefore su n)) refl (owner su n r)
+  where
+    go : (b : Bool) → ltb r (rowsBefore su n) ≡ b → (r < rowsBefore su n → Owner su n r) → Owner su (suc n) r
+    go true t rec =
+        let o = rec (ltb-true _ _ t) in
+        record { pool = o .pool; slot = o .slot; before = let l = o .before in omega arith; inside = o .inside; at = o .at }
+    go false t rec =
+        let l : rowsBefore su n ≤ r = ltb-false _ _ t in
+        record { pool = n; slot = r - rowsBefore su n; before = omega arith; inside = omega arith; at = omega arith }
