@@ -19,7 +19,6 @@ use Rattle.layout.specs.declared.Setup.{Setup}
 pub record Bounds (su : Setup) (room : ℕ) (lens : List ℕ) : Type 0 where
   pub few-pools : su .pools ≤ maxSubpools
   pub sizes : (k : ℕ) → k < su .pools → (1 ≤ sizeAt su k) × (sizeAt su k ≤ maxSlotSize)
-  pub rises : (k : ℕ) → suc k < su .pools → sizeAt su k < sizeAt su (suc k)
   pub slots : (k : ℕ) → k < su .pools → (1 ≤ slotsAt su k) × (slotsAt su k ≤ maxSlots)
   pub bytes-fit : bytesBefore su (su .pools) ≤ room
   pub rows-fit : rowsBefore su (su .pools) ≤ length lens
@@ -52,7 +51,6 @@ bounds {su} {st} {le} ok =
     record {
       few-pools = leb-true _ _ (s .1 .0);
       sizes = λ k l. let h = pool k l in (omega arith, h .1);
-      rises = λ k l. pool (suc k) l .0;
       slots = λ k l. let h = pool k l in (h .2, h .3);
       bytes-fit = b .0;
       rows-fit = b .1;

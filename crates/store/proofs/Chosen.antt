@@ -5,6 +5,8 @@ use Rattle.layout.proofs.Bounds.{bounds}
 use Rattle.layout.specs.Judge.{Sound}
 use Rattle.layout.specs.Layout.{bytesBefore, rowsBefore, sizeAt, slotsAt}
 use Rattle.layout.specs.Limits.{storeFree}
+use Rattle.lookup.proofs.Within.{Within, within}
+use Rattle.lookup.specs.Refusals.{paper}
 use Rattle.rules.specs.Papers.{Paper, no, refused, says}
 use Rattle.slots.proofs.Find.{find-held, find-no-pool, find-no-slot}
 use Rattle.slots.specs.Inside.{cellOf, roomOf}
@@ -12,11 +14,10 @@ use Rattle.slots.specs.Pools.{Choice, Found, Pool, Slot, allTaken, choose, find
 use Rattle.slots.specs.View.{each, part, poolIn, put, view}
 use Rattle.store.proofs.Edit.{leaves-fill}
 use Rattle.store.proofs.Promises.{does-done, does-refused}
-use Rattle.store.proofs.Wrote.{Within, within}
 use Rattle.store.specs.Calls.{addIn, place}
 use Rattle.store.specs.Edits.{editAt, fill}
 use Rattle.store.specs.Promise.{Does}
-use Rattle.store.specs.Refusals.{addedPaper, paper}
+use Rattle.store.specs.Refusals.{addedPaper}
 use borrow.Author.Tests.{eqb-false, eqb-true, leb-true, ltb-false, ltb-true}
 use lib.Dec.{eqb, leb, ltb}
 use lib.ListN.{getD, length, set}

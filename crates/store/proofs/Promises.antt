@@ -5,18 +5,20 @@ use Rattle.layout.proofs.Bounds.{bounds}
 use Rattle.layout.specs.Judge.{Sound}
 use Rattle.layout.specs.Layout.{allRows}
 use Rattle.layout.specs.Limits.{storeFree}
+use Rattle.lookup.proofs.Judging.{judging-fine}
+use Rattle.lookup.proofs.Packets.{Packet, held-inside, spot-refused}
+use Rattle.lookup.specs.Calls.{ifHeld, ifNamed, judging}
+use Rattle.lookup.specs.Refusals.{paper}
 use Rattle.rules.specs.Papers.{Outcome, Paper, after, done, no, refused, says}
 use Rattle.slots.specs.Inside.{fits, spotOf}
 use Rattle.slots.specs.Pools.{Pool, find}
 use Rattle.slots.specs.View.{Leaves, lensWith, put, storeWith, view}
 use Rattle.store.proofs.Edit.{leaves-wipe}
-use Rattle.store.proofs.Judging.{judging-fine}
 use Rattle.store.proofs.Laid.{leaves-same, lens-laid, same-lens, same-store, store-laid}
-use Rattle.store.proofs.Packets.{Packet, held-inside, spot-refused}
-use Rattle.store.specs.Calls.{deleteIn, ifHeld, ifNamed, judging}
+use Rattle.store.specs.Calls.{deleteIn}
 use Rattle.store.specs.Edits.{edit, wipe}
 use Rattle.store.specs.Promise.{Does, Writes}
-use Rattle.store.specs.Refusals.{deletedPaper, paper}
+use Rattle.store.specs.Refusals.{deletedPaper}
 use lib.ListN.{length, replicate, set}
 use mathlib.Core.List.{List, []}
 use mathlib.Core.Path.{_∙_, _≡_, sym}
@@ -25,8 +27,6 @@ use Rattle.slots.specs.declared.Cell.{Cell}
 use Rattle.slots.specs.declared.StoreRefusal.{StoreRefusal}
 use Rattle.slots.specs.declared.search.Spot.{Spot}
 use Rattle.slots.specs.declared.search.Spot.the-variants.{Refused}
-use Rattle.store.specs.declared.Verdict.{Verdict}
-use Rattle.store.specs.declared.Verdict.the-variants as Ve
 use Rattle.store.specs.declared.Deleted.the-variants as D
 
 -- a judged call that refuses

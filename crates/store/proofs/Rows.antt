@@ -7,13 +7,13 @@ use Rattle.layout.proofs.RowOf.{Named, below-named, owner, row-below, row-named
 use Rattle.layout.specs.Judge.{Sound}
 use Rattle.layout.specs.Layout.{allRows, rowOf, rowsBefore, sizeAt, slotsAt}
 use Rattle.layout.specs.Limits.{maxSlotSize, storeFree}
+use Rattle.lookup.proofs.Within.{Within, within}
 use Rattle.slots.proofs.Find.{find-held, find-no-pool, find-no-slot, find-vacant}
 use Rattle.slots.proofs.Lists.{part-length}
 use Rattle.slots.specs.Inside.{cellOf}
 use Rattle.slots.specs.Pools.{Found, find, held, noPool, noSlot, vacant}
 use Rattle.slots.specs.View.{bytesAt, view}
 use Rattle.store.proofs.Slots.{rows-apart}
-use Rattle.store.proofs.Wrote.{Within, within}
 use borrow.Author.Tests.{eqb-false, eqb-true, ltb-false, ltb-true}
 use lib.Dec.{eqb, ltb}
 use lib.ListN.{getD, length}

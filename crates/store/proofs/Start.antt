@@ -23,7 +23,6 @@ use mathlib.Core.Path.{_∙_, _≡_, ap, ap₂, refl, sym}
 use native.Mathlib.Nat.{le-of-suc-le-suc, mul-le-mul-right, not-suc-le-zero, sub-zero}
 use native.Mathlib.Omega.{arith}
 use Rattle.layout.specs.declared.Setup.{Setup}
-use Rattle.slots.specs.declared.StoreRefusal.the-variants.{BadSetup, BadBuffers}
 use Rattle.store.specs.declared.Started.the-variants as St
 
 take-repeated : (z n v : ℕ) → z ≤ n → take z (replicate n v) ≡ replicate z v

@@ -5,7 +5,7 @@ use Rattle.slots.specs.Pools.{Pool, Slot, free, over, taken}
 use lib.ListN.{length, replicate, take}
 use mathlib.Core.List.{List, [], _∷_}
 
--- Edit: one slot changed
+-- one slot changed
 abbrev pub editSlot : (Slot → Slot) → List Slot → ℕ → List Slot
 editSlot f [] i = []
 editSlot f (x ∷ xs) zero = f x ∷ xs

@@ -1,4 +1,4 @@
--- The static store: what a reader must believe. Read it in this order, beside document 01, after address, layout and slots.
+-- The static store: what a reader must believe. Read it in this order, beside document 01, after address, layout, slots and lookup.
 pub mod Edits
 pub mod Refusals
 pub mod Calls

@@ -1,38 +1,15 @@
--- The paper's number and values for each answer: 0 for one that is no refusal.
-use Prim.Native.Nat.{ℕ}
+-- The paper's number and values for each answer of a call that changes the store, and of judging.
+use Rattle.lookup.specs.Refusals.{paper}
 use Rattle.rules.specs.Papers.{Paper, no}
-use mathlib.Core.Bool.{Bool, false, true}
 use mathlib.Core.List.{[], _∷_}
-use Rattle.slots.specs.declared.StoreIdError.{StoreIdError}
-use Rattle.slots.specs.declared.StoreIdError.the-variants.{InvalidSubpool, InvalidPacketIdx}
-use Rattle.slots.specs.declared.StoreRefusal.{StoreRefusal}
-use Rattle.slots.specs.declared.StoreRefusal.the-variants.{BadSetup, BadBuffers, StateDamaged, DataTooLarge, StoreFull, InvalidStoreId, DataDoesNotExist, BufferTooSmall}
 use Rattle.store.specs.declared.Deleted.{Deleted}
 use Rattle.store.specs.declared.Deleted.the-variants as D
 use Rattle.store.specs.declared.Added.{Added}
 use Rattle.store.specs.declared.Added.the-variants as A
-use Rattle.store.specs.declared.Length.{Length}
-use Rattle.store.specs.declared.Length.the-variants as L
 use Rattle.store.specs.declared.Verdict.{Verdict}
 use Rattle.store.specs.declared.Verdict.the-variants as Ve
 use Rattle.store.specs.declared.Started.{Started}
 use Rattle.store.specs.declared.Started.the-variants as St
-use Rattle.store.specs.declared.Presence.{Presence}
-use Rattle.store.specs.declared.Presence.the-variants as P
-
-abbrev pub badPaper : StoreIdError → Paper
-badPaper (InvalidSubpool k) = no 16 (k ∷ [])
-badPaper (InvalidPacketIdx i) = no 17 (i ∷ [])
-
-unfoldable pub paper : StoreRefusal → Paper
-paper BadSetup = no 1 []
-paper BadBuffers = no 2 []
-paper StateDamaged = no 3 []
-paper (DataTooLarge n) = no 11 (n ∷ [])
-paper (StoreFull k) = no 12 (k ∷ [])
-paper (InvalidStoreId b) = badPaper b
-paper (DataDoesNotExist a) = no 18 (a ∷ [])
-paper (BufferTooSmall found expected) = no 19 (found ∷ expected ∷ [])
 
 unfoldable pub deletedPaper : Deleted → Paper
 deletedPaper D.Done = no 0 []
@@ -49,15 +26,3 @@ startedPaper (St.Refused e) = paper e
 unfoldable pub addedPaper : Added → Paper
 addedPaper (A.At a) = no 0 (a ∷ [])
 addedPaper (A.Refused e) = paper e
-
-unfoldable pub lengthPaper : Length → Paper
-lengthPaper (L.Of n) = no 0 (n ∷ [])
-lengthPaper (L.Refused e) = paper e
-
-abbrev pub bit : Bool → ℕ
-bit true = 1
-bit false = 0
-
-unfoldable pub presencePaper : Presence → Paper
-presencePaper (P.Is b) = no 0 (bit b ∷ [])
-presencePaper (P.Refused e) = paper e

@@ -13,16 +13,6 @@ pub enum Added {
     Refused(StoreRefusal),
 }
 
-pub enum Length {
-    Of(usize),
-    Refused(StoreRefusal),
-}
-
-pub enum Presence {
-    Is(bool),
-    Refused(StoreRefusal),
-}
-
 pub enum Deleted {
     Done,
     Refused(StoreRefusal),
@@ -30,16 +20,5 @@ pub enum Deleted {
 
 pub enum Started {
     Done,
-    Refused(StoreRefusal),
-}
-
-// The bytes of a packet in the store.
-pub struct Span {
-    pub from: usize,
-    pub len: usize,
-}
-
-pub enum Whereabouts {
-    At(Span),
     Refused(StoreRefusal),
 }

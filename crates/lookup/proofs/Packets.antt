@@ -1,0 +1,94 @@
+-- What is known where the search for an address has found a packet, or refused.
+use Prim.Native.Nat.{_+_, _<_, _≤_, ℕ}
+use Rattle.address.specs.Address.{poolOf, slotOf}
+use Rattle.layout.proofs.Bounds.{bounds}
+use Rattle.layout.specs.Judge.{Sound}
+use Rattle.layout.specs.Layout.{rowsBefore, slotsAt}
+use Rattle.layout.specs.Limits.{storeFree}
+use Rattle.lookup.proofs.Within.{Within, within}
+use Rattle.lookup.specs.Calls.{ifHeld, ifNamed}
+use Rattle.lookup.specs.Refusals.{paper}
+use Rattle.rules.specs.Papers.{Outcome, Paper, no, refused}
+use Rattle.slots.proofs.Find.{find-held, find-no-pool, find-no-slot, find-vacant}
+use Rattle.slots.specs.Inside.{cellOf, spotOf}
+use Rattle.slots.specs.Pools.{Found, find, findAt, held, noPool, noSlot, vacant}
+use Rattle.slots.specs.View.{bytesAt, part, view}
+use borrow.Author.Tests.{ltb-false, ltb-true}
+use lib.Dec.{ltb}
+use lib.ListN.{getD, length}
+use mathlib.Core.Bool.{Bool, false, true}
+use mathlib.Core.List.{List, []}
+use mathlib.Core.Logic.{⊎-elim}
+use mathlib.Core.Path.{_∙_, _≡_, ap, refl, subst, sym}
+use native.Mathlib.Omega.{arith}
+use Rattle.layout.specs.declared.Setup.{Setup}
+use Rattle.slots.specs.declared.Cell.{Cell}
+use Rattle.slots.specs.declared.StoreRefusal.{StoreRefusal}
+use Rattle.slots.specs.declared.search.Spot.{Spot}
+use Rattle.slots.specs.declared.search.Spot.the-variants.{Refused, At}
+
+pub record Packet (su : Setup) (st le : List ℕ) (a : ℕ) (c : Cell) : Type 0 where
+  pub is : c ≡ cellOf su (poolOf a) (slotOf a)
+  pub inside : Within su (length st) le c
+  pub there : find (view su st le) a ≡ held (getD le (c .row) 0) (part (c .from) (c .size) st)
+  pub short : getD le (c .row) 0 ≤ c .size
+
+held-is : (x : Found) (n : ℕ) (b : List ℕ) → x ≡ noPool → x ≡ held n b → ⊥
+held-is x n b p q = let z : _≡_ {A = ℕ} 0 1 = cc in omega arith
+
+held-slot : (x : Found) (n : ℕ) (b : List ℕ) → x ≡ noSlot → x ≡ held n b → ⊥
+held-slot x n b p q = let z : _≡_ {A = ℕ} 0 1 = cc in omega arith
+
+held-vacant : (x : Found) (n : ℕ) (b : List ℕ) → x ≡ vacant → x ≡ held n b → ⊥
+held-vacant x n b p q = let z : _≡_ {A = ℕ} 0 1 = cc in omega arith
+
+pub spot-at : (su : Setup) (a : ℕ) (x : Found) (c : Cell) → spotOf su a x ≡ At c
+    → (n : ℕ) × (b : List ℕ) × (x ≡ held n b) × (c ≡ cellOf su (poolOf a) (slotOf a))
+unfolding spotOf
+spot-at su a noPool c q = let z : _≡_ {A = ℕ} 0 1 = cc in absurd (omega arith)
+spot-at su a noSlot c q = let z : _≡_ {A = ℕ} 0 1 = cc in absurd (omega arith)
+spot-at su a vacant c q = let z : _≡_ {A = ℕ} 0 1 = cc in absurd (omega arith)
+spot-at su a (held n b) c q = (n, b, refl, cc)
+
+paper-of : Spot → Paper
+paper-of (Refused e) = paper e
+paper-of (At c) = no 0 []
+
+pub spot-refused : {A : Type 0} (su : Setup) (a : ℕ) (x : Found) (e : StoreRefusal) (f : ℕ → List ℕ → Outcome A) → spotOf su a x ≡ Refused e
+    → ifHeld a x f ≡ refused (paper e)
+unfolding spotOf ifHeld ifNamed paper-of paper
+spot-refused su a noPool e f q = ap refused (ap paper-of q)
+spot-refused su a noSlot e f q = ap refused (ap paper-of q)
+spot-refused su a vacant e f q = ap refused (ap paper-of q)
+spot-refused su a (held n b) e f q = let z : _≡_ {A = ℕ} 0 1 = cc in absurd (omega arith)
+
+module _ (su : Setup) (st le : List ℕ) (k i : ℕ) (n : ℕ) (b : List ℕ) (q : findAt (view su st le) k i ≡ held n b) where
+  pub held-inside : (k < su .pools) × (i < slotsAt su k) × (getD le (rowsBefore su k + i) 0 ≡ storeFree → ⊥)
+  held-inside = in-pool (ltb k (su .pools)) refl
+    where
+      in-slot : (t : Bool) → ltb i (slotsAt su k) ≡ t → k < su .pools
+          → (k < su .pools) × (i < slotsAt su k) × (getD le (rowsBefore su k + i) 0 ≡ storeFree → ⊥)
+      in-slot true e l = (l, ltb-true _ _ e, λ f. held-vacant _ n b (find-vacant su st le k i l (ltb-true _ _ e) f) q)
+      in-slot false e l = absurd (held-slot _ n b (find-no-slot su st le k i l (ltb-false _ _ e)) q)
+
+      in-pool : (t : Bool) → ltb k (su .pools) ≡ t → (k < su .pools) × (i < slotsAt su k) × (getD le (rowsBefore su k + i) 0 ≡ storeFree → ⊥)
+      in-pool true e = in-slot (ltb i (slotsAt su k)) refl (ltb-true _ _ e)
+      in-pool false e = absurd (held-is _ n b (find-no-pool su st le k i (ltb-false _ _ e)) q)
+
+module _ (su : Setup) (st le : List ℕ) (fine : Sound su st le) (a : ℕ) where
+  pub packet-there : (n : ℕ) (b : List ℕ) → find (view su st le) a ≡ held n b → Packet su st le a (cellOf su (poolOf a) (slotOf a))
+  unfolding bytesAt
+  packet-there n b q =
+      let h = held-inside su st le (poolOf a) (slotOf a) n b q in
+      let w = within su (length st) le (bounds fine) (poolOf a) (slotOf a) (h .0) (h .1) in
+      record {
+        is = refl;
+        inside = w;
+        there = find-held su st le (poolOf a) (slotOf a) (h .0) (h .1) (h .2);
+        short = ⊎-elim (λ f. absurd (h .2 f)) (λ l. l) (w .len-ok);
+      }
+
+  pub packet : (r : Spot) (c : Cell) → r ≡ spotOf su a (find (view su st le) a) → r ≡ At c → Packet su st le a c
+  packet r c p q =
+      let s = spot-at su a _ c (sym p ∙ q) in
+      subst (Packet su st le a) (sym (s .3)) (packet-there (s .0) (s .1) (s .2))

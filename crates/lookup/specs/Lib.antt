@@ -1,0 +1,4 @@
+-- A packet looked up.
+pub mod Refusals
+pub mod Calls
+pub mod Promise
