@@ -1,42 +1,40 @@
 -- What a deletion of several entries comes to: by a range of rows, and by what the range is.
 -- Assumes nothing.
 use Prim.Native.Nat.{_+_, _-_, _≤_, ℕ}
-use borrow.Author.Tests.{eq-eqb, ne-eqb}
-use lib.ListN.{drop, drop-of-length-le, length, length-drop, length-take, take}
+use lib.ListN.{drop, drop-of-length-le, length, take}
 use lib.Seq.{take-all}
 use mathlib.Core.Bool.{Bool, false, true}
 use mathlib.Core.List.{List}
-use mathlib.Core.Logic.{⊎-elim}
 use mathlib.Core.Path.{_≡_, _∙_, ap, ap₂, refl, sym}
 use native.Mathlib.Nat.{zero-add}
 use native.Mathlib.Omega.{arith}
 use Rattle.record.specs.Refusals.{paper}
 use Rattle.record.specs.declared.Record.{Record}
 use Rattle.record.specs.declared.ScheduleRefusal.{ScheduleRefusal}
-use Rattle.rules.specs.Papers.{Outcome, Paper, done, no}
+use Rattle.rules.specs.Papers.{Paper, done, no}
 use Rattle.store.specs.View.{view}
-use Rattle.table.proofs.Cases.{eq-or-ne}
 use Rattle.table.proofs.Rows.{length-unpack}
 use Rattle.table.proofs.WindowLaws.{window-covered, window-rows}
 use Rattle.table.proofs.Stays.{length-without}
 use Rattle.table.specs.Edits.{afterRemove, without}
 use Rattle.table.specs.Entries.{Entry, unpack}
 use Rattle.table.specs.Order.{ordered}
-use Rattle.table.specs.Windows.{endOf, firstRow, inWindow, outside, startOf}
+use Rattle.table.specs.Windows.{firstRow, inWindow, outside}
 use Rattle.table.specs.declared.Part.{Part}
 use Rattle.table.specs.declared.TimeWindow.{TimeWindow}
 use Rattle.deletions.specs.Answers.{clearedPaper}
 use Rattle.deletions.specs.Deleting.{Swept, clearIn, deleteWindowIn, resetIn, sweep, tally, unswept}
-use Rattle.deletions.specs.Inside.{Opens, Sweeps, clearPart, enabledAs, leftOf}
+use Rattle.windows.specs.Inside.{Opens}
+use Rattle.deletions.specs.Inside.{Sweeps, clearPart, enabledAs, leftOf}
 use Rattle.schedule.specs.Promise.{Does}
 use Rattle.schedule.specs.State.{State, recordOf, stateOf, withEntries, withPools}
 use Rattle.deletions.specs.declared.ClearAnswer.the-variants.{Done, Refused}
 use Rattle.schedule.specs.declared.Setup.{Setup}
 use Rattle.deletions.specs.declared.Tally.{Tally}
-use Rattle.deletions.specs.declared.Window.{Window}
-use Rattle.deletions.specs.declared.windows.Opened.{Opened}
-use Rattle.deletions.specs.declared.windows.Opened.the-variants as O
-use Rattle.deletions.proofs.Openings.{opened-at, opened-refused}
+use Rattle.windows.specs.declared.Window.{Window}
+use Rattle.windows.specs.declared.Opened.{Opened}
+use Rattle.windows.specs.declared.Opened.the-variants as O
+use Rattle.windows.proofs.Openings.{opened-at, opened-refused}
 use Rattle.schedule.proofs.Promises.{does-as, does-done, does-refused}
 
 module _ (su : Setup) (r : Record) (st le ro : List ℕ) where

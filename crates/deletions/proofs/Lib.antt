@@ -1,6 +1,3 @@
--- The facts by which windows and deletions are proved.
-pub mod Openings
-pub mod Retrieving
+-- The facts by which the deletions by window and `reset` are proved.
 pub mod Sweeping
 pub mod Clearing
-pub mod Taking

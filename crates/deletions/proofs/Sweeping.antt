@@ -2,15 +2,15 @@
 -- Assumes nothing.
 use Prim.Native.Nat.{_+_, _-_, _<_, _≤_, suc, ℕ}
 use lib.ListN.{drop, take}
-use mathlib.Core.List.{List, [], _∷_}
-use mathlib.Core.Path.{_≡_, _∙_, ap, ap₂, refl}
+use mathlib.Core.List.{List, _∷_}
+use mathlib.Core.Path.{_≡_, _∙_, ap, ap₂, refl, sym}
 use native.Mathlib.Omega.{arith}
-use Rattle.rules.specs.Papers.{Paper, after, done, says}
+use Rattle.rules.specs.Papers.{Outcome, Paper, after, done, refused, says}
 use Rattle.store.proofs.Laid.{leaves-as, leaves-now, leaves-same, leaves-then}
 use Rattle.store.proofs.Numbers.{not-done}
-use Rattle.store.specs.Calls.{deleteIn, ifHeld, ifNamed}
+use Rattle.store.specs.Calls.{deleteIn}
 use Rattle.store.specs.Judge.{Sound as StoreSound}
-use Rattle.store.specs.Pools.{Found, Pool, edit, find, held, noPool, noSlot, vacant, wipe}
+use Rattle.store.specs.Pools.{Pool}
 use Rattle.store.specs.Promise.{Does}
 use Rattle.store.specs.Refusals.{deletedPaper}
 use Rattle.store.specs.View.{Leaves, view}
@@ -18,6 +18,7 @@ use Rattle.store.specs.declared.Deleted.{Deleted}
 use Rattle.store.specs.declared.Deleted.the-variants as D
 use Rattle.store.specs.declared.Setup.{Setup as StoreSetup}
 use Rattle.store.specs.declared.StoreRefusal.{StoreRefusal}
+use Rattle.store_laws.proofs.Numbers.{delete-numbered}
 use Rattle.store_laws.proofs.StaysSound.{delete-stays}
 use Rattle.table.proofs.Rows.{drop-row}
 use Rattle.table.specs.Entries.{row, unpack}
@@ -38,23 +39,17 @@ module _ (t : Tally) (ps qs : List Pool) (a : ℕ) where
   there : List Pool → Swept
   there xs = record { deleted = t .deleted + 1; missing = t .missing; last = lastPaper (t .last); pools = xs }
 
-  told-by : (x : Found) (r : Deleted) → deletedPaper r ≡ says (ifHeld a x (λ n b. done [] (edit wipe ps a)))
-      → qs ≡ after (ifHeld a x (λ n b. done [] (edit wipe ps a))) ps (λ y. y)
-      → tallied (counted t r) qs ≡ swept (tallied t ps) (ifHeld a x (λ n b. done [] (edit wipe ps a)))
-  unfolding deletedPaper says after ifHeld ifNamed swept lastPaper missed there
-  told-by noPool D.Done q v = let z : _≡_ {A = ℕ} 0 16 = ap (λ (p : Paper). p .number) q in absurd (omega arith)
-  told-by noSlot D.Done q v = let z : _≡_ {A = ℕ} 0 17 = ap (λ (p : Paper). p .number) q in absurd (omega arith)
-  told-by vacant D.Done q v = let z : _≡_ {A = ℕ} 0 18 = ap (λ (p : Paper). p .number) q in absurd (omega arith)
-  told-by (held n b) D.Done q v = ap there v
-  told-by noPool (D.Refused e) q v = ap₂ missed q v
-  told-by noSlot (D.Refused e) q v = ap₂ missed q v
-  told-by vacant (D.Refused e) q v = ap₂ missed q v
-  told-by (held n b) (D.Refused e) q v = absurd (not-done e [] q)
+  told-by : (o : Outcome (List Pool)) (r : Deleted) → deletedPaper r ≡ says o → ((p : Paper) → o ≡ refused p → p .number ≡ 0 → ⊥)
+      → qs ≡ after o ps (λ y. y) → tallied (counted t r) qs ≡ swept (tallied t ps) o
+  unfolding deletedPaper says after swept lastPaper missed there
+  told-by (refused p) D.Done q h v = absurd (h p refl (sym (ap (λ (x : Paper). x .number) q)))
+  told-by (refused p) (D.Refused e) q h v = ap₂ missed q v
+  told-by (done vs xs) D.Done q h v = ap there v
+  told-by (done vs xs) (D.Refused e) q h v = absurd (not-done e vs q)
 
   told-one : (r : Deleted) → deletedPaper r ≡ says (deleteIn ps a) → qs ≡ after (deleteIn ps a) ps (λ y. y)
       → tallied (counted t r) qs ≡ swept (tallied t ps) (deleteIn ps a)
-  unfolding deleteIn
-  told-one r q v = told-by (find ps a) r q v
+  told-one r q v = told-by (deleteIn ps a) r q (delete-numbered ps a) v
 
 -- one packet more is one more
 counted-one : (t : Tally) (r : Deleted) → counted t r .deleted + counted t r .missing ≡ t .deleted + t .missing + 1

@@ -1,21 +1,15 @@
--- The deletions: by window and `reset`, which remove every entry that they cover, and by request ID, which removes one.
+-- The deletions by window and `reset`: every entry that they cover goes.
 use Prim.Native.Nat.{_+_, ℕ}
-use lib.Dec.{ltb}
-use lib.ListN.{getD, length}
 use mathlib.Core.Bool.{false}
 use mathlib.Core.List.{List, [], _∷_}
 use Rattle.rules.specs.Papers.{Outcome, Paper, done, no, refused}
-use Rattle.rules.specs.Tests.{unless}
 use Rattle.store.specs.Calls.{deleteIn}
 use Rattle.store.specs.Pools.{Pool}
-use Rattle.table.specs.Edits.{without}
 use Rattle.table.specs.Entries.{Entry}
-use Rattle.table.specs.Match.{none, victim}
 use Rattle.table.specs.Windows.{inWindow, outside}
-use Rattle.table.specs.declared.TimeWindow.the-variants as T
 use Rattle.schedule.specs.State.{State, withEntries, withPools}
-use Rattle.deletions.specs.Windowing.{windowed}
-use Rattle.deletions.specs.declared.Window.{Window}
+use Rattle.windows.specs.Windowing.{windowed}
+use Rattle.windows.specs.declared.Window.{Window}
 
 -- what a deletion of several packets comes to: how many were deleted, how many missing, the last refusal that the store gave for
 -- a missing one (number 0 where there was none), and the store
@@ -56,21 +50,3 @@ disabled s = record { pools = s .pools; entries = s .entries; clock = s .clock; 
 
 unfoldable pub resetIn : State → Outcome State
 resetIn s = clearIn (s .entries) [] (disabled s)
-
--- by request ID: no match answers 0. One form answers 1 and the address, and keeps the packet
-unfoldable pub takeIn : ℕ → (ℕ → State → Outcome State) → State → Outcome State
-takeIn id found s =
-    unless (ltb (victim id (s .entries)) (length (s .entries))) (done (0 ∷ []) s)
-    (found (getD (s .entries) (victim id (s .entries)) none .addr) (withEntries (without (victim id (s .entries)) 1 (s .entries)) s))
-
-unfoldable pub deleteKeepingIn : ℕ → State → Outcome State
-deleteKeepingIn id s = takeIn id (λ a t. done (1 ∷ a ∷ []) t) s
-
--- the other deletes the packet too, and answers 1 and 1; where the packet is missing the entry still goes, and the answer carries
--- the store's refusal
-unfoldable pub freed : State → Outcome (List Pool) → Outcome State
-freed s (refused p) = done (1 ∷ 0 ∷ p .number ∷ p .values) s
-freed s (done vs ps) = done (1 ∷ 1 ∷ []) (withPools ps s)
-
-unfoldable pub deleteByIdIn : ℕ → State → Outcome State
-deleteByIdIn id s = takeIn id (λ a t. freed t (deleteIn (t .pools) a)) s

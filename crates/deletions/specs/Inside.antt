@@ -2,11 +2,10 @@
 use Prim.Native.Nat.{_+_, _-_, ℕ}
 use lib.ListN.{drop, take}
 use mathlib.Core.Bool.{Bool}
-use mathlib.Core.List.{List, []}
+use mathlib.Core.List.{List}
 use mathlib.Core.Path.{_≡_}
-use Rattle.record.specs.Refusals.{paper}
 use Rattle.record.specs.declared.Record.{Record}
-use Rattle.rules.specs.Papers.{Outcome, done, refused}
+use Rattle.rules.specs.Papers.{Outcome}
 use Rattle.schedule.specs.State.{State}
 use Rattle.store.specs.Pools.{Pool}
 use Rattle.store.specs.View.{Leaves, view}
@@ -15,32 +14,11 @@ use Rattle.store.specs.declared.Deleted.the-variants as D
 use Rattle.store.specs.declared.Setup.{Setup as StoreSetup}
 use Rattle.table.specs.Edits.{without}
 use Rattle.table.specs.Entries.{Entry}
-use Rattle.table.specs.Windows.{EndsInRange}
 use Rattle.table.specs.declared.Part.{Part}
-use Rattle.table.specs.declared.TimeWindow.{TimeWindow}
 use Rattle.deletions.specs.Answers.{lastPaper}
 use Rattle.deletions.specs.Deleting.{Swept, clearIn, sweep, unswept}
-use Rattle.deletions.specs.Windowing.{windowed}
-use Rattle.deletions.specs.declared.FreeAnswer.{FreeAnswer}
-use Rattle.deletions.specs.declared.FreeAnswer.the-variants as F
 use Rattle.deletions.specs.declared.Last.the-variants as La
 use Rattle.deletions.specs.declared.Tally.{Tally}
-use Rattle.deletions.specs.declared.Window.{Window}
-use Rattle.deletions.specs.declared.windows.Opened.{Opened}
-use Rattle.deletions.specs.declared.windows.Opened.the-variants as O
-
--- the window in moments, or which of 4 and 15 every call with it is given
-unfoldable pub openedAs : Opened → Outcome TimeWindow
-openedAs (O.At w) = done [] w
-openedAs (O.Refused e) = refused (paper e)
-
-abbrev pub Ends : Opened → Type 0
-Ends (O.At w) = EndsInRange w
-Ends (O.Refused e) = Unit {0}
-
-pub record Opens (w : Window) (r : Opened) : Type 0 where
-  pub same : openedAs r ≡ windowed w (λ x. done [] x)
-  pub ends : Ends r
 
 -- one packet more, in the code's tally
 abbrev pub counted : Tally → Deleted → Tally
@@ -66,8 +44,3 @@ clearPart p b s =
 
 abbrev pub leftOf : Record → ℕ → Bool → Record
 leftOf r n b = record { count = r .count - n; clock = r .clock; margin = r .margin; enabled = b }
-
--- what the store's answer to a deletion becomes
-abbrev pub freedOf : Deleted → FreeAnswer
-freedOf D.Done = F.Deleted
-freedOf (D.Refused e) = F.Missing e

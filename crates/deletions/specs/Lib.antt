@@ -1,5 +1,4 @@
--- The rules of windows and deletions.
-pub mod Windowing
+-- The rules of the deletions by window and of `reset`.
 pub mod Deleting
 pub mod Answers
 pub mod Inside

@@ -1,13 +1,12 @@
 // The deletions of several entries for a caller that has judged: by window, and all of them.
 use crate::ClearAnswer;
 use crate::Cleared;
-use crate::Window;
 use crate::sweep::sweep;
-use crate::windows;
-use crate::windows::Opened;
 use record::Record;
 use schedule::Setup;
 use table::Part;
+use windows::Opened;
+use windows::Window;
 ghost use Prim.Native.Nat.{_+_, _≤_};
 ghost use mathlib.Core.Path.{_≡_};
 ghost use Rattle.deletions.specs.Answers.{clearedPaper};

@@ -12,21 +12,23 @@ use Rattle.record.specs.Refusals.{paper}
 use Rattle.record.specs.declared.Record.{Record}
 use Rattle.record.specs.declared.ScheduleRefusal.{ScheduleRefusal}
 use Rattle.record.specs.declared.ScheduleRefusal.the-variants.{BadTime, NestedScheduledTc, TcUnreadable}
-use Rattle.rules.specs.Papers.{Outcome, Paper, no, refused}
+use Rattle.rules.specs.Papers.{Paper, no}
 use Rattle.rules.specs.Tests.{unless}
 use Rattle.store.specs.Calls.{addIn}
 use Rattle.time.specs.Time.{inRange}
 use Rattle.store.specs.View.{view}
 use Rattle.time.specs.declared.UnixTime.{UnixTime}
-use Rattle.insertions.specs.Inserting.{activity, entered, insertTc, insertUnwrappedIn, nested, timed}
-use Rattle.insertions.specs.Inside.{firstPaper, Gate}
+use Rattle.gate.specs.Entering.{timed}
+use Rattle.insertions.specs.Inserting.{activity, entered, insertTc, insertUnwrappedIn, nested}
+use Rattle.gate.specs.Inside.{Gate}
+use Rattle.insertions.specs.Inside.{firstPaper}
 use Rattle.schedule.specs.Promise.{Does}
-use Rattle.schedule.specs.State.{State, stateOf, withPools}
+use Rattle.schedule.specs.State.{stateOf, withPools}
 use Rattle.schedule.specs.declared.Setup.{Setup}
 use Rattle.schedule.specs.declared.Verdict.{Verdict}
 use Rattle.schedule.specs.declared.Verdict.the-variants as Ve
 use Rattle.insertions.proofs.Adding.{blocked, nested-refused, plain-enters}
-use Rattle.insertions.proofs.Entering.{gate-refused}
+use Rattle.gate.proofs.Storing.{gate-refused}
 use Rattle.schedule.proofs.Promises.{does-as, does-refused, record-same}
 
 module _ (su : Setup) (r : Record) (st le ro : List ℕ) (t : UnixTime) (tc : List ℕ) where

@@ -2,13 +2,13 @@
 -- Assumes nothing.
 use Prim.Native.Nat.{_+_, _<_, ℕ}
 use lib.ListN.{getD, length}
-use mathlib.Core.Bool.{Bool, false, not, true}
+use mathlib.Core.Bool.{Bool, false, true}
 use mathlib.Core.List.{List, [], _∷_}
 use mathlib.Core.Path.{_≡_, _∙_, ap, refl, sym}
 use native.Mathlib.Omega.{arith}
 use Rattle.packet.specs.Packet.{idOf, idWord}
 use Rattle.packet.specs.declared.Header.{Header}
-use Rattle.packet.specs.declared.Reading.the-variants.{Packet, Unreadable}
+use Rattle.packet.specs.declared.Reading.the-variants.{Packet}
 use Rattle.record.specs.Refusals.{paper}
 use Rattle.record.specs.declared.Record.{Record}
 use Rattle.record.specs.declared.ScheduleRefusal.{ScheduleRefusal}
@@ -16,13 +16,14 @@ use Rattle.record.specs.declared.ScheduleRefusal.the-variants.{Store}
 use Rattle.rules.specs.Papers.{Outcome, Paper, after, done, no, refused, says}
 use Rattle.rules.specs.Tests.{unless}
 use Rattle.store.proofs.Numbers.{not-done}
-use Rattle.store.specs.Calls.{addIn, place}
-use Rattle.store.specs.Pools.{Choice, Pool, allTaken, choose, into, tooLarge}
+use Rattle.store.specs.Calls.{addIn}
+use Rattle.store.specs.Pools.{Pool}
 use Rattle.store.specs.Refusals.{addedPaper, paper as storePaper}
 use Rattle.store.specs.View.{Leaves, view}
 use Rattle.store.specs.declared.Added.{Added}
 use Rattle.store.specs.declared.Added.the-variants as A
 use Rattle.store.specs.declared.StoreRefusal.{StoreRefusal}
+use Rattle.store_laws.proofs.Numbers.{add-numbered}
 use Rattle.table.proofs.Rows.{length-unpack}
 use Rattle.table.proofs.Stays.{length-insertSorted}
 use Rattle.table.specs.Edits.{afterInsert, insertSorted}
@@ -30,26 +31,16 @@ use Rattle.table.specs.Entries.{entryOf, unpack}
 use Rattle.time.specs.Time.{inTimeMargin, momentOf}
 use Rattle.time.specs.declared.UnixTime.{UnixTime}
 use Rattle.insertions.specs.Answers.{insertedPaper}
-use Rattle.insertions.specs.Inserting.{activity, enter, entered, nested}
+use Rattle.gate.specs.Entering.{enter}
+use Rattle.insertions.specs.Inserting.{activity, entered, nested}
 use Rattle.insertions.specs.Inside.{firstPaper, firstRefusal}
 use Rattle.schedule.specs.State.{State, recordOf, stateOf, withCount, withEntries, withPools}
 use Rattle.schedule.specs.Promise.{Does}
 use Rattle.insertions.specs.declared.InsertAnswer.{InsertAnswer}
-use Rattle.insertions.specs.declared.InsertAnswer.the-variants.{Inserted, Refused}
+use Rattle.insertions.specs.declared.InsertAnswer.the-variants.{Refused}
 use Rattle.schedule.specs.declared.Setup.{Setup}
-use Rattle.insertions.proofs.Gates.{enters}
-use Rattle.schedule.proofs.Outcomes.{no-answer, refused-number}
+use Rattle.gate.proofs.Gates.{enters}
 use Rattle.schedule.proofs.Promises.{does-done}
-
--- a refusal of `add` has a number
-add-numbered : (spill : Bool) (ps : List Pool) (d : List ℕ) (p : Paper) → addIn spill ps d ≡ refused p → p .number ≡ 0 → ⊥
-unfolding addIn place
-add-numbered spill ps d p = go (choose spill ps (length d))
-  where
-    go : (c : Choice) → place ps d c ≡ refused p → p .number ≡ 0 → ⊥
-    go tooLarge e z = omega (arith, refused-number _ _ e)
-    go (allTaken k) e z = omega (arith, refused-number _ _ e)
-    go (into k i) e z = no-answer _ _ _ e
 
 -- an outcome, by what it says
 says-refused : {A : Type 0} (o : Outcome A) (x : StoreRefusal) → storePaper x ≡ says o → o ≡ refused (storePaper x)
@@ -97,12 +88,6 @@ module _ (su : Setup) (t : UnixTime) (tc : List ℕ) (s : State) (h : Header) wh
 
 -- stored and entered
 module _ (su : Setup) (r : Record) (st le ro : List ℕ) (t : UnixTime) (tc : List ℕ) (id : ℕ) (st′ le′ : List ℕ) where
-  out : Outcome (List Pool)
-  out = addIn (su .store .spill) (view (su .store) st le) tc
-
-  call : State → Outcome State
-  call s = entered su t id s (addIn (su .store .spill) (s .pools) tc)
-
   module _ (l : Leaves (su .store) st le (after (addIn (su .store .spill) (view (su .store) st le) tc) (view (su .store) st le) (λ ps. ps)) st′ le′) where
     pub enter-refused : (x : StoreRefusal) → storePaper x ≡ says (addIn (su .store .spill) (view (su .store) st le) tc)
         → Does su r st le ro (λ s. entered su t id s (addIn (su .store .spill) (s .pools) tc)) (paper (Store x)) r st′ le′ ro

@@ -1,6 +1,3 @@
--- The facts by which the insertions are proved.
-pub mod Gates
-pub mod Entering
+-- The facts by which the insertions by bytes are proved.
 pub mod Adding
 pub mod Activities
-pub mod Wrapping

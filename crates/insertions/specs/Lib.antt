@@ -1,4 +1,4 @@
--- The insertions' rules.
+-- The rules of the insertions by bytes.
 pub mod Inserting
 pub mod Answers
 pub mod Inside

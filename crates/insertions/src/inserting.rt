@@ -1,7 +1,6 @@
-// The insertions by bytes, for a caller that has judged: a command with its release time, and a wrapped one.
+// The insertion by a time and a packet, for a caller that has judged; the wrapped one ends with the same.
 use crate::InsertAnswer;
 use crate::Inserted;
-use crate::gate;
 use packet::Header;
 use packet::Reading;
 use record::Record;

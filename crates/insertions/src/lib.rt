@@ -1,23 +1,9 @@
-// The three insertions (document 01, module 5): by a wrapped packet, by a time and a packet, and of a packet that is stored already.
-use record::Changed;
-use record::Done;
+// The insertions by bytes (document 01, module 5): a command of a release time goes to the store, and its entry to the schedule.
 use record::Record;
 use record::ScheduleRefusal;
-use schedule::Setup;
-use schedule::Verdict;
 use table::TcInfo;
-use time::UnixTime;
-ghost use mathlib.Core.Path.{_≡_};
-ghost use Rattle.record.specs.Refusals.{donePaper};
-ghost use Rattle.schedule.specs.Judge.{judging};
-ghost use Rattle.schedule.specs.Promise.{Writes};
-ghost use Rattle.insertions.specs.Answers.{insertedPaper};
-ghost use Rattle.insertions.specs.Inserting.{insertStoredIn, insertUnwrappedIn, insertWrappedIn};
 
-mod gate;
 pub mod inserting;
-pub mod judged;
-pub mod wrapped;
 
 // What an insertion by bytes answers: the packet's address and its request ID.
 pub enum InsertAnswer {
@@ -28,79 +14,4 @@ pub enum InsertAnswer {
 pub struct Inserted {
     pub next: Record,
     pub answer: InsertAnswer,
-}
-
-// An entry for a packet that is in the store already. Its address is not judged.
-pub fn insert_unwrapped_and_stored_tc(
-    setup: Setup,
-    rec: Record,
-    store: &[u8],
-    lens: &[u16],
-    rows: &mut [u64],
-    release: UnixTime,
-    request_id: u64,
-    addr: u64,
-) -> Changed
-    ensures { λ c. ⌜ Writes setup rec (now (store .entry)) (now (lens .entry)) (now (rows .entry))
-        (judging setup rec (now (store .entry)) (now (lens .entry)) (now (rows .entry)) (insertStoredIn setup release «request_id» addr))
-        (donePaper (c .answer)) (c .next) (now (store .entry)) (now (lens .entry)) (now (rows .exit)) ⌝ }
-{
-    let j = schedule::judge(setup, rec, store, lens, rows);
-    match j {
-        Verdict::Refused(e) => Changed {
-            next: rec,
-            answer: Done::Refused(e),
-        },
-        Verdict::Fine => judged::insert_unwrapped_and_stored_tc(
-            setup,
-            rec,
-            store,
-            lens,
-            rows,
-            release,
-            request_id,
-            addr,
-        ),
-    }
-}
-
-// A command with its release time: its packet goes to the store, and its entry to the schedule.
-pub fn insert_unwrapped_tc(
-    setup: Setup,
-    rec: Record,
-    store: &mut [u8],
-    lens: &mut [u16],
-    rows: &mut [u64],
-    release: UnixTime,
-    tc: &[u8],
-) -> Inserted
-    ensures { λ c. ⌜ Writes setup rec (now (store .entry)) (now (lens .entry)) (now (rows .entry))
-        (judging setup rec (now (store .entry)) (now (lens .entry)) (now (rows .entry)) (insertUnwrappedIn setup release (now (tc .entry))))
-        (insertedPaper (c .answer)) (c .next) (now (store .exit)) (now (lens .exit)) (now (rows .exit)) ⌝ }
-{
-    let j = schedule::judge(setup, rec, store, lens, rows);
-    match j {
-        Verdict::Refused(e) => inserting::refuse(rec, e),
-        Verdict::Fine => inserting::insert_unwrapped_tc(setup, rec, store, lens, rows, release, tc),
-    }
-}
-
-// A packet of service 11, subservice 4, whose user data is a stamp and the command.
-pub fn insert_wrapped_tc(
-    setup: Setup,
-    rec: Record,
-    store: &mut [u8],
-    lens: &mut [u16],
-    rows: &mut [u64],
-    outer: &[u8],
-) -> Inserted
-    ensures { λ c. ⌜ Writes setup rec (now (store .entry)) (now (lens .entry)) (now (rows .entry))
-        (judging setup rec (now (store .entry)) (now (lens .entry)) (now (rows .entry)) (insertWrappedIn setup (now (outer .entry))))
-        (insertedPaper (c .answer)) (c .next) (now (store .exit)) (now (lens .exit)) (now (rows .exit)) ⌝ }
-{
-    let j = schedule::judge(setup, rec, store, lens, rows);
-    match j {
-        Verdict::Refused(e) => inserting::refuse(rec, e),
-        Verdict::Fine => wrapped::insert_wrapped_tc(setup, rec, store, lens, rows, outer),
-    }
 }

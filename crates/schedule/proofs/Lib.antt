@@ -1,7 +1,6 @@
 -- The facts by which the schedule's functions, and those of the calls above it, are proved.
 pub mod Facts
 pub mod Judging
-pub mod Outcomes
 pub mod Promises
 pub mod Counting
 pub mod Starting

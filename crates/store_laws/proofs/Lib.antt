@@ -1,4 +1,5 @@
 -- The store's laws: OneOutcome, RefusalKeeps, StaysSound, ReadBack, OthersStay, OneToOne. The other files help them.
+pub mod Numbers
 pub mod Fitting
 pub mod Elsewhere
 pub mod Reached

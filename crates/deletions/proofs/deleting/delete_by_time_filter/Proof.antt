@@ -5,7 +5,7 @@ use borrow.Author.Needs.{needs}
 use Rattle.rules.specs.Papers.{done}
 use Rattle.deletions.proofs.Clearing.{window-done, window-refused}
 use Rattle.schedule.proofs.Facts.{facts, table-sound}
-use Rattle.deletions.proofs.Openings.{opened-at}
+use Rattle.windows.proofs.Openings.{opened-at}
 use Rattle.deletions.proofs.deleting.delete_by_time_filter.Statement.{statement}
 use Rattle.deletions.proofs.deleting.delete_by_time_filter.Tie as tie
 

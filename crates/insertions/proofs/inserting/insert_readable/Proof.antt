@@ -1,15 +1,13 @@
 -- `insertions::inserting::insert_readable` meets its contract.
 -- Assumes nothing.
-use Prim.Native.Nat.{ℕ}
 use mathlib.Core.Bool.{false}
-use mathlib.Core.List.{List}
 use mathlib.Core.Path.{_≡_, _∙_, ap, sym}
 use borrow.Author.Needs.{needs}
-use Rattle.packet.specs.Packet.{idOf, idWord}
+use Rattle.packet.specs.Packet.{idWord}
 use Rattle.insertions.specs.Answers.{insertedPaper}
 use Rattle.insertions.specs.Inserting.{nested}
 use Rattle.insertions.proofs.Activities.{does-blocked, does-nested, does-plain}
-use Rattle.insertions.proofs.Entering.{gate-fine}
+use Rattle.gate.proofs.Storing.{gate-fine}
 use Rattle.schedule.proofs.Facts.{facts}
 use Rattle.insertions.proofs.inserting.insert_readable.Statement.{statement}
 use Rattle.insertions.proofs.inserting.insert_readable.Tie as tie

@@ -1,0 +1,63 @@
+-- `by_id::judged::delete_by_request_id` meets its contract.
+-- Assumes nothing.
+use native.Mathlib.Omega.{arith}
+use borrow.Author.Needs.{needs}
+use Rattle.by_id.specs.Answers.{takenPaper}
+use Rattle.schedule.proofs.Facts.{facts, table-sound}
+use Rattle.by_id.proofs.Taking.{keep-done, keep-none}
+use Rattle.by_id.proofs.judged.delete_by_request_id.Statement.{statement}
+use Rattle.by_id.proofs.judged.delete_by_request_id.Tie as tie
+
+victim-requires : tie.Need-victim-requires
+victim-requires c κs = table-sound (facts (c .before .before .before .before .pre))
+
+returns : tie.Need-returns
+unfolding takenPaper
+returns c =
+    let v = c .before in
+    let s = v .before .before .before .before .before in
+    let a = s .args in
+    keep-none (a .setup) (a .rec) (a .store .now) (a .lens .now) (a .rows .now) (facts (s .pre)) (a .request-id) _ (v .victim .ensures .1) (c .if1 .taken)
+
+tc-info-requires : tie.Need-tc-info-requires
+tc-info-requires c κs =
+    let e = c .before in
+    let s = e .before .before .before .before .before .before in
+    let t = table-sound (facts (s .pre)) in
+    (record { room = t .room }, e .if1 .left)
+
+remove-requires : tie.Need-remove-requires
+remove-requires c κs =
+    let e = c .before .before .before in
+    let s = e .before .before .before .before .before .before in
+    let t = table-sound (facts (s .pre)) in
+    (record { room = t .room }, omega (arith, e .if1 .left))
+
+sub-with-count : tie.Need-sub-with-count
+sub-with-count c = let e = c .before .before .before .before .before .before in omega (arith, e .if1 .left)
+
+returns-2 : tie.Need-returns-2
+unfolding takenPaper
+returns-2 c =
+    let m = c .before .before .before in
+    let i = m .before .before in
+    let e = i .before .before in
+    let v = e .before in
+    let s = v .before .before .before .before .before in
+    let a = s .args in
+    keep-done (a .setup) (a .rec) (a .store .now) (a .lens .now) (a .rows .now) (facts (s .pre)) (a .request-id) _ (v .victim .ensures .1) (e .if1 .left) _ _ _
+    (i .tc-info .ensures .1) (c .with-count .ensures) (m .remove .ensures)
+
+pub delete-by-request-id-spec : {M : Type 1} → statement M
+delete-by-request-id-spec =
+    tie.close
+    (tie.spec
+    victim-requires
+    (λ c. search needs)
+    returns
+    tc-info-requires
+    remove-requires
+    sub-with-count
+    (λ c κs. search needs)
+    (λ c. search needs)
+    returns-2)

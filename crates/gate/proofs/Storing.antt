@@ -1,0 +1,83 @@
+-- What a stored insertion comes to, by what its tests said.
+-- Assumes nothing.
+use Prim.Native.Nat.{_+_, _<_, ℕ}
+use lib.ListN.{length}
+use mathlib.Core.Bool.{false, true}
+use mathlib.Core.List.{List, []}
+use mathlib.Core.Path.{_≡_, _∙_, ap, sym}
+use native.Mathlib.Omega.{arith}
+use Rattle.record.specs.Refusals.{donePaper, paper}
+use Rattle.record.specs.declared.Done.the-variants.{Ok, Refused}
+use Rattle.record.specs.declared.Record.{Record}
+use Rattle.record.specs.declared.ScheduleRefusal.{ScheduleRefusal}
+use Rattle.record.specs.declared.ScheduleRefusal.the-variants.{BadTime}
+use Rattle.rules.specs.Papers.{done, no, refused}
+use Rattle.rules.specs.Tests.{unless}
+use Rattle.store.proofs.Laid.{leaves-same}
+use Rattle.table.proofs.Rows.{length-unpack}
+use Rattle.table.proofs.Stays.{length-insertSorted}
+use Rattle.table.specs.Edits.{afterInsert, insertSorted}
+use Rattle.table.specs.Entries.{entryOf, unpack}
+use Rattle.table.specs.Order.{Spare}
+use Rattle.time.specs.Time.{inRange, inTimeMargin, momentOf}
+use Rattle.time.specs.declared.UnixTime.{UnixTime}
+use Rattle.gate.specs.Entering.{enter, insertStoredIn, timed}
+use Rattle.gate.specs.Inside.{Gate}
+use Rattle.schedule.specs.State.{State, recordOf, stateOf, withCount, withEntries}
+use Rattle.schedule.specs.Promise.{Does}
+use Rattle.schedule.specs.declared.Setup.{Setup}
+use Rattle.schedule.specs.declared.Verdict.{Verdict}
+use Rattle.schedule.specs.declared.Verdict.the-variants as Ve
+use Rattle.schedule.proofs.Facts.{Facts}
+use Rattle.gate.proofs.Gates.{enters}
+use Rattle.schedule.proofs.Promises.{does-done, does-refused, record-same}
+
+-- the gate, by its verdict
+pub gate-refused : (su : Setup) (r : Record) (t : UnixTime) (v : Verdict) (e : ScheduleRefusal) → Gate su r t v → v ≡ Ve.Refused e
+    → (id a : ℕ) (vs : List ℕ) (s : State) → recordOf s ≡ r → enter su t id a vs s ≡ refused (paper e)
+gate-refused su r t v e g q = rw q at g
+
+pub gate-fine : (su : Setup) (r : Record) (t : UnixTime) (v : Verdict) → Gate su r t v → v ≡ Ve.Fine
+    → (inTimeMargin (r .clock) (r .margin) t ≡ false) × (r .count < su .entries)
+gate-fine su r t v g q = rw q at g
+
+-- a row for one more
+pub spare : {su : Setup} {r : Record} {st le ro : List ℕ} → Facts su r st le ro → r .count < su .entries → Spare ro (r .count)
+spare f l = record { room = omega arith; few = omega arith }
+
+module _ (su : Setup) (r : Record) (st le ro : List ℕ) (t : UnixTime) (id a : ℕ) where
+  pub stored-bad : inRange t ≡ false → Does su r st le ro (insertStoredIn su t id a) (donePaper (Refused BadTime)) r st le ro
+  unfolding insertStoredIn timed unless donePaper paper
+  stored-bad e = does-refused su r st le ro (insertStoredIn su t id a) (no 4 []) (rw e)
+
+  pub stored-refused : (v : Verdict) (e : ScheduleRefusal) → inRange t ≡ true → Gate su r t v → v ≡ Ve.Refused e
+      → Does su r st le ro (insertStoredIn su t id a) (donePaper (Refused e)) r st le ro
+  unfolding insertStoredIn timed unless donePaper
+  stored-refused v e i g q =
+      does-refused su r st le ro (insertStoredIn su t id a) (paper e)
+      (rw i (gate-refused su r t v e g q id a [] (stateOf su r st le ro) (record-same su r st le ro)))
+
+  -- the state after it
+  after-stored : State
+  after-stored = withEntries (insertSorted (entryOf (momentOf t) id a) (unpack (r .count) ro)) (stateOf su r st le ro)
+
+  next-record : recordOf after-stored ≡ withCount (r .count + 1) r
+  unfolding after-stored stateOf
+  next-record =
+      ap (λ (n : ℕ). withCount n r)
+      (length-insertSorted (entryOf (momentOf t) id a) (unpack (r .count) ro) ∙ ap (λ (n : ℕ). n + 1) (length-unpack (r .count) ro))
+
+  stored-is : inRange t ≡ true → inTimeMargin (r .clock) (r .margin) t ≡ false → r .count < su .entries
+      → insertStoredIn su t id a (stateOf su r st le ro) ≡ done [] after-stored
+  unfolding insertStoredIn timed unless stateOf after-stored
+  stored-is i e l =
+      let h : length (unpack (r .count) ro) < su .entries = omega (arith, length-unpack (r .count) ro) in
+      rw i (enters su t id a [] (stateOf su r st le ro) e h)
+
+  pub stored-done : (ro′ : List ℕ) (n : Record) → inRange t ≡ true → inTimeMargin (r .clock) (r .margin) t ≡ false → r .count < su .entries
+      → n ≡ withCount (r .count + 1) r → ro′ ≡ afterInsert ro (r .count) (entryOf (momentOf t) id a)
+      → Does su r st le ro (insertStoredIn su t id a) (donePaper Ok) n st le ro′
+  unfolding donePaper after-stored stateOf
+  stored-done ro′ n i e l p q =
+      rw (p ∙ sym next-record)
+      (does-done su r st le ro (insertStoredIn su t id a) [] after-stored st le ro′ (stored-is i e l) (leaves-same (su .store) st le) q)

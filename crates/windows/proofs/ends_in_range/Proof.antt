@@ -1,0 +1,40 @@
+-- `windows::ends_in_range` meets its contract.
+-- Assumes nothing.
+use mathlib.Core.Bool.{_&&_}
+use mathlib.Core.Path.{_∙_, ap₂}
+use borrow.Author.Needs.{needs}
+use Rattle.windows.proofs.Openings.{ends-all, ends-both, ends-from, ends-to}
+use Rattle.windows.proofs.ends_in_range.Statement.{statement}
+use Rattle.windows.proofs.ends_in_range.Tie as tie
+
+returns : tie.Need-returns
+returns c = ends-all _ (c .enum-told .given .1)
+
+returns-2 : tie.Need-returns-2
+returns-2 c =
+    c .both .ensures ∙ ap₂ _&&_ (c .before .before .in-range .ensures) (c .before .in-range2 .ensures)
+    ∙ ends-both _ _ _ (c .before .before .before .before .w .given .1)
+
+returns-3 : tie.Need-returns-3
+returns-3 c = c .in-range3 .ensures ∙ ends-from _ _ (c .before .before .w2 .given .1)
+
+returns-4 : tie.Need-returns-4
+returns-4 c = c .in-range4 .ensures ∙ ends-to _ _ (c .before .before .w3 .given .1)
+
+pub ends-in-range-spec : {M : Type 1} → statement M
+ends-in-range-spec =
+    tie.close
+    (tie.spec
+    (λ c. search needs)
+    (λ c. search needs)
+    (λ c κs. search needs)
+    (λ c κs. search needs)
+    (λ c κs. search needs)
+    (λ c. search needs)
+    (λ c κs. search needs)
+    (λ c. search needs)
+    (λ c κs. search needs)
+    returns
+    returns-2
+    returns-3
+    returns-4)

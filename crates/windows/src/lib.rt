@@ -1,0 +1,97 @@
+// Windows of time given as arguments (document 01, module 5): 4 for an end out of range, 15 for a start after the end, and then the window in moments.
+use record::ScheduleRefusal;
+use table::Part;
+use table::TimeWindow;
+use time::UnixTime;
+ghost use mathlib.Core.Path.{_≡_};
+ghost use mathlib.Core.Bool.{_&&_, true};
+ghost use lib.Dec.{leb};
+ghost use Rattle.time.specs.Time.{InRange, instant};
+ghost use Rattle.table.specs.Windows.{EndsInRange};
+ghost use Rattle.windows.specs.Inside.{Opens};
+ghost use Rattle.windows.specs.Windowing.{endsInRange, forward as forwardOf, windowOf};
+
+pub mod judged;
+
+// A window of time, as it is given: an end that it has not is no argument.
+pub enum Window {
+    All,
+    FromTo(UnixTime, UnixTime),
+    From(UnixTime),
+    To(UnixTime),
+}
+
+pub enum Retrieved {
+    Rows(Part),
+    Refused(ScheduleRefusal),
+}
+
+// A window with its ends judged.
+pub enum Opened {
+    At(TimeWindow),
+    Refused(ScheduleRefusal),
+}
+
+pub fn open(w: Window) -> Opened
+    ensures { λ r. ⌜ Opens w r ⌝ }
+{
+    let ok = ends_in_range(w);
+    if !ok {
+        return Opened::Refused(ScheduleRefusal::BadTime);
+    }
+    let onward = forward(w);
+    if !onward {
+        return Opened::Refused(ScheduleRefusal::ReversedWindow);
+    }
+    Opened::At(moments(w))
+}
+
+fn ends_in_range(w: Window) -> bool
+    ensures { λ r. ⌜ r ≡ endsInRange w ⌝ }
+{
+    match w {
+        Window::All => true,
+        Window::FromTo(f, t) => both(f.in_range(), t.in_range()),
+        Window::From(f) => f.in_range(),
+        Window::To(t) => t.in_range(),
+    }
+}
+
+fn forward(w: Window) -> bool
+    requires { ⌜ endsInRange w ≡ true ⌝ }
+    ensures { λ r. ⌜ r ≡ forwardOf w ⌝ }
+{
+    match w {
+        Window::All => true,
+        Window::FromTo(f, t) => not_after(f, t),
+        Window::From(_) => true,
+        Window::To(_) => true,
+    }
+}
+
+fn moments(w: Window) -> TimeWindow
+    requires { ⌜ endsInRange w ≡ true ⌝ }
+    ensures { λ r. ⌜ (r ≡ windowOf w) × EndsInRange r ⌝ }
+{
+    match w {
+        Window::All => TimeWindow::All,
+        Window::FromTo(f, t) => TimeWindow::FromTo(f.to_moment(), t.to_moment()),
+        Window::From(f) => TimeWindow::From(f.to_moment()),
+        Window::To(t) => TimeWindow::To(t.to_moment()),
+    }
+}
+
+fn not_after(f: UnixTime, t: UnixTime) -> bool
+    requires { ⌜ InRange f ⌝ }
+    requires { ⌜ InRange t ⌝ }
+    ensures { λ r. ⌜ r ≡ leb (instant f) (instant t) ⌝ }
+{
+    let back = t.to_moment().is_before(f.to_moment());
+    !back
+}
+
+fn both(a: bool, b: bool) -> bool
+    ensures { λ r. ⌜ r ≡ (a && b) ⌝ }
+{
+    if a { b } else { false }
+}

@@ -1,0 +1,2 @@
+-- The facts by which the wrapped insertion is proved.
+pub mod Wrapping

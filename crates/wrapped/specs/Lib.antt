@@ -1,0 +1,2 @@
+-- The wrapped insertion's rules.
+pub mod Wrapped
