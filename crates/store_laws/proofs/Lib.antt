@@ -2,6 +2,7 @@
 pub mod Numbers
 pub mod Fitting
 pub mod Elsewhere
+pub mod Wiped
 pub mod Reached
 pub mod Back
 pub mod OneToOne

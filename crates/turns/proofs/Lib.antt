@@ -1,8 +1,2 @@
--- The facts by which the turns of a tick are proved.
-pub mod Marking
-pub mod Standing
-pub mod Unmarking
-pub mod Measuring
-pub mod Handing
-pub mod Turning
+-- The facts by which the release is proved.
 pub mod Room

@@ -1,5 +1,2 @@
--- The turns of a tick.
-pub mod Turns
-pub mod Parts
-pub mod Marks
-pub mod Turned
+-- What a tick hands out.
+pub mod Released

@@ -7,11 +7,7 @@ ghost use Rattle.store.specs.Judge.{Sound as StoreSound};
 ghost use Rattle.store.specs.View.{view};
 ghost use Rattle.table.specs.Entries.{unpack};
 ghost use Rattle.table.specs.Order.{Held};
-ghost use Rattle.turns.specs.Parts.{Released, firstTotal};
-
-mod measure;
-mod writing;
-
+ghost use Rattle.turns.specs.Released.{Released, firstTotal};
 use store::Whereabouts;
 
 // The log that the first entry's record needs alone.
@@ -58,7 +54,7 @@ pub fn release(
         m (now (store .exit)) (now (lens .exit)) (now (rows .exit)) (now (log .exit)) ⌝ }
 {
     let m = measure::measure(setup, store, lens, rows, n, cap, delete);
-    writing::hand_out(setup, store, lens, rows, log, m, on, delete);
+    handing::hand_out(setup, store, lens, rows, log, m, on, delete);
     table::edit::remove(rows, count, 0, m);
     m
 }

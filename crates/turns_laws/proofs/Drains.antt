@@ -1,6 +1,7 @@
 -- Repeated ticks with limit k at least 1, nothing between them and room for k records of the largest packet hand out d due entries
 -- within d / k ticks, rounded up.
 use Prim.Native.Nat.{_*_, _+_, _-_, _≤_, min, suc, zero, ℕ}
+use Rattle.measure.specs.Fitting.{fitting}
 use Rattle.rules.specs.Tests.{unless}
 use Rattle.store.specs.Judge.{Sound}
 use Rattle.store.specs.Pools.{Pool, find}
@@ -8,13 +9,13 @@ use Rattle.store.specs.View.{view}
 use Rattle.table.proofs.Order.{below-le, drop-ordered}
 use Rattle.table.specs.Entries.{Entry}
 use Rattle.table.specs.Order.{ordered}
-use Rattle.turns.proofs.Room.{either}
-use Rattle.turns.specs.Parts.{afterAll, fitting, turns}
-use Rattle.turns.specs.Turns.{Handout, handed, handout, leave, need}
+use Rattle.turn.specs.Turns.{Handout, handed, handout, leave, need}
 use Rattle.turns_laws.proofs.Due.{below-drop, due-is}
 use Rattle.turns_laws.proofs.Packets.{short-leave, short-need, sound-short}
+use Rattle.turns_laws.proofs.Room.{either}
 use Rattle.turns_laws.proofs.Split.{Splits, many, splits}
 use Rattle.turns_laws.specs.Draining.{Short, drained, due, dueCount, largestSlot, next, roundedUp}
+use Rattle.handing.specs.Handing.{afterAll, turns}
 use borrow.Author.Tests.{le-leb}
 use lib.ListN.{drop, length, length-take, take}
 use lib.Seq.{drop-drop, take-add}

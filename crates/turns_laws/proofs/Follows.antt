@@ -4,7 +4,7 @@ use Prim.Native.Nat.{_+_, _-_, ℕ}
 use Rattle.rules.specs.Tests.{unless}
 use Rattle.store.specs.Pools.{Pool, find}
 use Rattle.table.specs.Entries.{Entry}
-use Rattle.turns.specs.Turns.{Handout, goesOut, handed, handout, need, put, stop}
+use Rattle.turn.specs.Turns.{Handout, goesOut, handed, handout, need, put, stop}
 use mathlib.Core.Bool.{Bool, false, true}
 use mathlib.Core.List.{List, [], _∷_}
 use mathlib.Core.Path.{_≡_, ap, refl}

@@ -6,10 +6,10 @@ use Rattle.log.specs.Log.{logBytes, mostLogBytes}
 use Rattle.log.specs.Reading.{readLog}
 use Rattle.store.specs.Pools.{Pool}
 use Rattle.table.specs.Entries.{Entry}
-use Rattle.turns.specs.Parts.{turns}
-use Rattle.turns.specs.Turns.{handout}
+use Rattle.turn.specs.Turns.{handout}
 use Rattle.turns_laws.proofs.Largest.{largest}
 use Rattle.turns_laws.proofs.Split.{splits}
+use Rattle.handing.specs.Handing.{turns}
 use lib.ListN.{length, take}
 use lib.Seq.{sets}
 use mathlib.Core.Bool.{Bool}

@@ -3,16 +3,17 @@
 use Prim.Native.Nat.{_*_, _+_, _≤_, min, suc, zero, ℕ}
 use Rattle.log.proofs.Sizes.{taken, total-parts}
 use Rattle.log.specs.Log.{records, total}
+use Rattle.measure.specs.Fitting.{fitting}
+use Rattle.rules.specs.Tests.{unless}
 use Rattle.store.specs.Pools.{Pool, find}
 use Rattle.table.proofs.Order.{below-le}
 use Rattle.table.specs.Entries.{Entry}
-use Rattle.rules.specs.Tests.{unless}
-use Rattle.turns.proofs.Room.{fitting-holds, fitting-le}
-use Rattle.turns.proofs.Turning.{length-turns}
-use Rattle.turns.specs.Parts.{fitting, turns}
-use Rattle.turns.specs.Turns.{handout, need}
+use Rattle.turn.specs.Turns.{handout, need}
+use Rattle.turns_laws.proofs.Room.{fitting-holds, fitting-le}
 use Rattle.turns_laws.proofs.Split.{at-most, many}
 use Rattle.turns_laws.specs.Draining.{due}
+use Rattle.handing.proofs.Turning.{length-turns}
+use Rattle.handing.specs.Handing.{turns}
 use borrow.Author.Tests.{le-leb}
 use lib.ListN.{length, length-take, take}
 use lib.Seq.{take-take}

@@ -8,7 +8,7 @@ use Rattle.store.specs.Layout.{rowsBefore, sizeAt, slotsAt}
 use Rattle.store.specs.Limits.{storeFree}
 use Rattle.store.specs.Pools.{Pool, Slot, editAt, editSlot, find, findAt, findSlot, free, taken, wipe}
 use Rattle.store.specs.View.{bytesAt, view}
-use Rattle.turns.specs.Turns.{leave, need, packetOf}
+use Rattle.turn.specs.Turns.{leave, need, packetOf}
 use Rattle.turns_laws.specs.Draining.{Short, largestSlot}
 use borrow.Author.Tests.{eqb-false, eqb-true, ltb-false, ltb-true}
 use lib.Dec.{eqb, ltb}

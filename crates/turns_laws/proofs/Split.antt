@@ -1,14 +1,15 @@
 -- The schedule splits by position: its first m entries are handed out, in order, and leave; the others stay.
 -- Assumes nothing.
 use Prim.Native.Nat.{_+_, _-_, _≤_, min, suc, ℕ}
+use Rattle.measure.specs.Fitting.{fitting}
 use Rattle.rules.specs.Tests.{allOf, unless}
 use Rattle.store.specs.Pools.{Pool, find}
 use Rattle.table.proofs.Order.{below-head, below-not}
 use Rattle.table.specs.Entries.{Entry, time}
-use Rattle.turns.proofs.Room.{either, fitting-le}
-use Rattle.turns.specs.Parts.{afterAll, fitting, turns}
-use Rattle.turns.specs.Turns.{Handout, handed, handout, need, put, stop}
+use Rattle.turn.specs.Turns.{Handout, handed, handout, need, put, stop}
+use Rattle.turns_laws.proofs.Room.{either, fitting-le}
 use Rattle.turns_laws.specs.Draining.{due}
+use Rattle.handing.specs.Handing.{afterAll, turns}
 use borrow.Author.Tests.{leb-false, leb-true, ltb-false, ltb-true}
 use lib.Dec.{leb, ltb}
 use lib.ListN.{drop, length, length-take, take}

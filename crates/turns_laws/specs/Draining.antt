@@ -5,7 +5,7 @@ use Rattle.store.specs.Layout.{sizeAt}
 use Rattle.store.specs.Pools.{Pool, findAt}
 use Rattle.table.specs.Entries.{Entry, time}
 use Rattle.table.specs.Order.{below}
-use Rattle.turns.specs.Turns.{Handout, handout, packetOf, stop}
+use Rattle.turn.specs.Turns.{Handout, handout, packetOf, stop}
 use lib.Dec.{leb}
 use lib.ListN.{length}
 use mathlib.Core.Bool.{Bool}

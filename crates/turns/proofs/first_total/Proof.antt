@@ -1,9 +1,9 @@
 -- `turns::first_total` meets its contract.
 -- Assumes nothing.
+use Rattle.turn.proofs.OneTurn.{long-away, long-here, span-in}
+use Rattle.turns.proofs.Room.{first-is, first-none}
 use native.Mathlib.Omega.{arith}
 use borrow.Author.Needs.{needs}
-use Rattle.turns.proofs.Handing.{long-away, long-here, span-in}
-use Rattle.turns.proofs.Room.{first-is, first-none}
 use Rattle.turns.proofs.first_total.Statement.{statement}
 use Rattle.turns.proofs.first_total.Tie as tie
 

@@ -1,8 +1,8 @@
 -- `turns::release` meets its contract.
 -- Assumes nothing.
+use Rattle.turns.proofs.Room.{few, released, roomy}
 use native.Mathlib.Omega.{arith}
 use borrow.Author.Needs.{needs}
-use Rattle.turns.proofs.Room.{few, released, roomy}
 use Rattle.turns.proofs.release.Statement.{statement}
 use Rattle.turns.proofs.release.Tie as tie
 

@@ -1,0 +1,2 @@
+-- The turns of entries that are all handed out.
+pub mod Handing

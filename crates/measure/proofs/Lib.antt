@@ -1,0 +1,5 @@
+-- The facts by which counting is proved.
+pub mod Marking
+pub mod Standing
+pub mod Unmarking
+pub mod Measuring

@@ -1,0 +1,2 @@
+-- The facts by which one turn is proved.
+pub mod OneTurn

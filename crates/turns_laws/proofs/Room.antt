@@ -1,0 +1,50 @@
+-- The entries that fit do fit: how many they are, and what their log takes.
+-- Assumes nothing.
+use Prim.Native.Nat.{_*_, _+_, _≤_, suc, ℕ}
+use Rattle.log.proofs.Sizes.{size-records}
+use Rattle.log.specs.Log.{LogRecord, records}
+use Rattle.measure.specs.Fitting.{fitting}
+use Rattle.rules.specs.Tests.{unless}
+use Rattle.store.specs.Pools.{Pool, find}
+use Rattle.table.specs.Entries.{Entry}
+use Rattle.turn.specs.Turns.{handed, need}
+use Rattle.handing.specs.Handing.{turns}
+use borrow.Author.Tests.{leb-true}
+use lib.ListN.{length, take}
+use mathlib.Core.Bool.{Bool, false, true}
+use mathlib.Core.List.{List, [], _∷_}
+use mathlib.Core.Path.{_≡_, refl}
+use native.Mathlib.Omega.{arith}
+
+-- what holds of both outcomes of a test holds of what it picks
+pub either : {A : Type 0} (P : A → Type 0) (b : Bool) (x y : A) → (b ≡ true → P x) → (b ≡ false → P y) → P (unless b y x)
+unfolding unless
+either P true x y f g = f refl
+either P false x y f g = g refl
+
+module _ (after : List Pool → ℕ → List Pool) (cap : ℕ) where
+  pub fitting-le : (used : ℕ) (es : List Entry) (ps : List Pool) → fitting after used cap es ps ≤ length es
+  unfolding fitting
+  fitting-le used [] ps = omega arith
+  fitting-le used (e ∷ es) ps =
+      let h = fitting-le (used + need (find ps (e .addr))) es (after ps (e .addr)) in
+      either (λ (n : ℕ). n ≤ suc (length es)) _ _ _ (λ q. omega arith) (λ q. omega arith)
+
+  pub fitting-holds : (on : Entry → Bool) (used : ℕ) (es : List Entry) (ps : List Pool) → used ≤ cap
+      → used + 4 * fitting after used cap es ps + length (records (turns after on (take (fitting after used cap es ps) es) ps)) ≤ cap
+  unfolding fitting turns records
+  fitting-holds on used [] ps h = omega arith
+  fitting-holds on used (e ∷ es) ps h =
+      let r : LogRecord = handed (on e) e (find ps (e .addr)) in
+      let n : ℕ = fitting after (used + need (find ps (e .addr))) cap es (after ps (e .addr)) in
+      either
+      (λ (m : ℕ). used + 4 * m + length (records (turns after on (take m (e ∷ es)) ps)) ≤ cap)
+      _
+      _
+      _
+      (λ q. omega (
+        arith,
+        fitting-holds on (used + need (find ps (e .addr))) es (after ps (e .addr)) (leb-true _ _ q),
+        size-records r (turns after on (take n es) (after ps (e .addr))),
+      ))
+      (λ q. omega arith)
