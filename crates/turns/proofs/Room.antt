@@ -6,13 +6,12 @@ use Rattle.measure.specs.Fitting.{fitting}
 use Rattle.store.specs.Pools.{Pool, find}
 use Rattle.store.specs.View.{view}
 use Rattle.table.proofs.Rows.{length-unpack, take-unpack}
-use Rattle.table.specs.Edits.{without}
-use Rattle.table.specs.Entries.{relaid, row, unpack}
+use Rattle.table.specs.Entries.{row, unpack}
 use Rattle.turn.specs.Turns.{always, leave, packetOf}
 use Rattle.turns_laws.proofs.Room.{fitting-holds, fitting-le}
-use Rattle.turns.specs.Released.{Released, firstTotal}
+use Rattle.turns.specs.Released.{firstTotal}
 use Rattle.handing.proofs.Turning.{length-turns}
-use Rattle.handing.specs.Handing.{Roomy, Turns, turns}
+use Rattle.handing.specs.Handing.{Roomy, turns}
 use lib.ListN.{length, take}
 use mathlib.Core.Bool.{Bool}
 use mathlib.Core.List.{List}
@@ -37,10 +36,6 @@ module _ (su : Setup) (st le w : List ℕ) (del : Bool) (n cap m : ℕ) (q : m �
         let u = length-turns (leave del) (always on) (unpack m w) (view su st le) ∙ length-unpack m w in
         let v = total-of (turns (leave del) (always on) (unpack m w) (view su st le)) m cap u f in
         record { holds = omega arith; small = omega arith }
-
-    pub released : (count : ℕ) (le₁ st′ le′ w′ log′ : List ℕ) → le₁ ≡ le → Turns su del on (unpack m w) st le₁ log st′ le′ log′
-        → w′ ≡ relaid w count (without 0 m (unpack count w)) → Released su del on n cap count st le w log m st′ le′ w′ log′
-    released count le₁ st′ le′ w′ log′ e t x = record { many = q; some = few; turned = rw e at t; moved = x }
 
 -- the first entry's record alone
 pub first-none : (count : ℕ) (w : List ℕ) (ps : List Pool) → count < 1 → 8 ≡ firstTotal (unpack count w) ps

@@ -1,25 +1,32 @@
--- What is handed out of the first rows: as many as fit, their records, the store and the rows after them.
-use Prim.Native.Nat.{_+_, _≤_, ℕ}
-use Rattle.measure.specs.Fitting.{fitting}
+-- What is handed out of the rows of a schedule: how many, their log, and the store and the rows after them.
+use Prim.Native.Nat.{_+_, _≤_, min, ℕ}
+use Rattle.log.specs.Log.{logBytes}
 use Rattle.store.specs.Pools.{Pool, find}
-use Rattle.store.specs.View.{view}
-use Rattle.table.specs.Edits.{without}
+use Rattle.store.specs.View.{Leaves, view}
+use Rattle.store.specs.declared.Setup.{Setup}
 use Rattle.table.specs.Entries.{Entry, relaid, unpack}
-use Rattle.turn.specs.Turns.{leave, need}
-use Rattle.handing.specs.Handing.{Turns}
+use Rattle.turn.specs.Turns.{Handout, always, handout, leave, need}
+use Rattle.turns_laws.specs.Due.{due}
+use lib.ListN.{length}
+use lib.Seq.{sets}
 use mathlib.Core.Bool.{Bool}
 use mathlib.Core.List.{List, [], _∷_}
 use mathlib.Core.Path.{_≡_}
-use Rattle.store.specs.declared.Setup.{Setup}
 
 -- the log that the first entry's record needs alone
 abbrev pub firstTotal : List Entry → List Pool → ℕ
 firstTotal [] ps = 8
 firstTotal (e ∷ es) ps = 8 + need (find ps (e .addr))
 
--- as many of the first n rows as fit into cap bytes of the log: how many, their turns, and the rows without them
+-- a handout, carried out: m is how many records it has, and they are the log; the lists stand for its store, the rows for the entries that stay
+pub record CarriedOut (su : Setup) (count : ℕ) (st le ro log : List ℕ) (h : Handout) (m : ℕ) (st′ le′ ro′ log′ : List ℕ) : Type 0 where
+  pub many : m ≡ length (h .records)
+  pub wrote : log′ ≡ sets log 0 (logBytes (h .records))
+  pub lists : Leaves su st le (h .pools) st′ le′
+  pub moved : ro′ ≡ relaid ro count (h .left)
+
+-- of the first n rows as many as fit into cap bytes of the log: document 01's handout, whatever the clock and the limit by which it is n
 pub record Released (su : Setup) (del on : Bool) (n cap count : ℕ) (st le ro log : List ℕ) (m : ℕ) (st′ le′ ro′ log′ : List ℕ) : Type 0 where
-  pub many : m ≡ fitting (leave del) 8 cap (unpack n ro) (view su st le)
   pub some : m ≤ n
-  pub turned : Turns su del on (unpack m ro) st le log st′ le′ log′
-  pub moved : ro′ ≡ relaid ro count (without 0 m (unpack count ro))
+  pub out : (clock limit : ℕ) → n ≡ min limit (due clock (unpack count ro))
+      → CarriedOut su count st le ro log (handout (leave del) (always on) clock limit 8 cap (unpack count ro) (view su st le)) m st′ le′ ro′ log′

@@ -1,6 +1,6 @@
 -- Repeated ticks with limit k at least 1, nothing between them and room for k records of the largest packet hand out d due entries
 -- within d / k ticks, rounded up.
-use Prim.Native.Nat.{_*_, _+_, _-_, _≤_, min, suc, zero, ℕ}
+use Prim.Native.Nat.{_*_, _+_, _-_, _/_, _≤_, min, suc, zero, ℕ}
 use Rattle.measure.specs.Fitting.{fitting}
 use Rattle.rules.specs.Tests.{unless}
 use Rattle.store.specs.Judge.{Sound}
@@ -13,8 +13,9 @@ use Rattle.turn.specs.Turns.{Handout, handed, handout, leave, need}
 use Rattle.turns_laws.proofs.Due.{below-drop, due-is}
 use Rattle.turns_laws.proofs.Packets.{short-leave, short-need, sound-short}
 use Rattle.turns_laws.proofs.Room.{either}
-use Rattle.turns_laws.proofs.Split.{Splits, many, splits}
-use Rattle.turns_laws.specs.Draining.{Short, drained, due, dueCount, largestSlot, next, roundedUp}
+use Rattle.turns_laws.proofs.Split.{Splits, left-due, many, splits}
+use Rattle.turns_laws.specs.Draining.{Short, drained, largestSlot, next, roomFor, roundedUp}
+use Rattle.turns_laws.specs.Due.{due, dueCount}
 use Rattle.handing.specs.Handing.{afterAll, turns}
 use borrow.Author.Tests.{le-leb}
 use lib.ListN.{drop, length, length-take, take}
@@ -77,14 +78,17 @@ short-handout big del on ck k used cap (e ∷ es) ps s =
     (λ q. short-handout big del on ck (k - 1) (used + need (find ps (e .addr))) cap es (leave del ps (e .addr)) (short-leave big del ps (e .addr) s))
     (λ q. s)
 
+-- a quotient times its divisor is less than the divisor short of what was divided
+nearly : (x k : ℕ) → 1 ≤ k → x ≤ x / k * k + (k - 1)
+nearly x k h = let e = div-add-mod' x k in let r = mod-lt x {m = k} h in omega arith
+
 pub up : (d k n : ℕ) → 1 ≤ k → roundedUp d k ≤ n → d ≤ n * k
 up d k n h l =
-    let e = div-add-mod' (d + (k - 1)) k in
-    let r = mod-lt (d + (k - 1)) {m = k} h in
+    let e : d + (k - 1) ≤ roundedUp d k * k + (k - 1) = nearly _ k h in
     let m = mul-le-mul-right {m = roundedUp d k} {n = n} k l in
     omega arith
 
-module _ (big : ℕ) (del : Bool) (on : Entry → Bool) (ck k cap : ℕ) (room : 8 + k * (21 + big) ≤ cap) where
+module _ (big : ℕ) (del : Bool) (on : Entry → Bool) (ck k cap : ℕ) (room : roomFor k big ≤ cap) where
   -- one tick hands out as many due entries as the limit allows
   pub one-hands : (es : List Entry) (ps : List Pool) → Short big ps
       → length (handout (leave del) on ck k 8 cap es ps .records) ≡ min k (due ck es)
@@ -105,7 +109,7 @@ module _ (big : ℕ) (del : Bool) (on : Entry → Bool) (ck k cap : ℕ) (room :
       let h : Handout = handout (leave del) on ck k 8 cap es ps in
       let a = splits (leave del) on ck k 8 cap es ps in
       let o = one-hands es ps s in
-      let l : due ck (h .left) ≡ due ck es - length (h .records) = rw (a .left-is) (below-drop (ck + 1) (length (h .records)) es (omega arith)) in
+      let l : due ck (h .left) ≡ due ck es - length (h .records) = left-due (leave del) on ck k 8 cap es ps in
       let t : length (h .records) + min (n * k) (due ck (h .left)) ≡ min (suc n * k) (due ck es) = omega arith in
       subst (Splits (leave del) on es ps (drained (leave del) on ck k cap (suc n) es ps)) t
       (then-more (leave del) on es ps h _ _ _ a (drain-splits n (h .left) (h .pools) (short-handout big del on ck k 8 cap es ps s)))
@@ -149,7 +153,7 @@ module _
     (on : Entry → Bool)
     (ck k cap : ℕ)
     (some : 1 ≤ k)
-    (room : 8 + k * (21 + largestSlot su) ≤ cap) where
+    (room : roomFor k (largestSlot su) ≤ cap) where
   pub ticks-drain : (n : ℕ) (es : List Entry) → roundedUp (due ck es) k ≤ n
       → Splits (leave del) on es (view su st le) (drained (leave del) on ck k cap n es (view su st le)) (due ck es)
   ticks-drain n es l = all-drain (largestSlot su) del on ck k cap room n es (view su st le) (sound-short su st le ok) some l

@@ -5,7 +5,7 @@ use Rattle.rules.specs.Tests.{unless}
 use Rattle.table.proofs.Order.{Head, below-head, below-not, ordered-cons}
 use Rattle.table.specs.Entries.{Entry, time}
 use Rattle.table.specs.Order.{below, orderedFrom}
-use Rattle.turns_laws.specs.Draining.{due, dueCount}
+use Rattle.turns_laws.specs.Due.{due, dueCount}
 use borrow.Author.Tests.{leb-false, leb-true, lt-leb}
 use lib.Dec.{leb, ltb}
 use lib.ListN.{drop}
@@ -33,7 +33,7 @@ due-is ck t (e ∷ es) o = go (leb (time e) ck) refl (ordered-cons t e es o) (λ
     go false q d ih =
         below-not (ck + 1) e es (omega (arith, leb-false (time e) ck q)) ∙ sym (none-due ck (time e) es (leb-false (time e) ck q) (d .rest))
 
--- as many fewer are due as were handed out
+-- of the due entries at the front as many fewer are left as went
 pub below-drop : (t m : ℕ) (es : List Entry) → m ≤ below t es → below t (drop m es) ≡ below t es - m
 unfolding below
 below-drop t zero es h = omega arith

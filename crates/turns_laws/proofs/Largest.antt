@@ -11,7 +11,7 @@ use Rattle.table.specs.Entries.{Entry}
 use Rattle.turn.specs.Turns.{handout, need}
 use Rattle.turns_laws.proofs.Room.{fitting-holds, fitting-le}
 use Rattle.turns_laws.proofs.Split.{at-most, many}
-use Rattle.turns_laws.specs.Draining.{due}
+use Rattle.turns_laws.specs.Due.{due}
 use Rattle.handing.proofs.Turning.{length-turns}
 use Rattle.handing.specs.Handing.{turns}
 use borrow.Author.Tests.{le-leb}

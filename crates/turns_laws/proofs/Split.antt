@@ -8,7 +8,8 @@ use Rattle.table.proofs.Order.{below-head, below-not}
 use Rattle.table.specs.Entries.{Entry, time}
 use Rattle.turn.specs.Turns.{Handout, handed, handout, need, put, stop}
 use Rattle.turns_laws.proofs.Room.{either, fitting-le}
-use Rattle.turns_laws.specs.Draining.{due}
+use Rattle.turns_laws.proofs.Due.{below-drop}
+use Rattle.turns_laws.specs.Due.{due}
 use Rattle.handing.specs.Handing.{afterAll, turns}
 use borrow.Author.Tests.{leb-false, leb-true, ltb-false, ltb-true}
 use lib.Dec.{leb, ltb}
@@ -79,6 +80,13 @@ at-most after on ck k used cap es ps =
     let f = fitting-le after cap used (take (min k (due ck es)) es) ps in
     let l = length-take (min k (due ck es)) es in
     (omega arith, omega arith)
+
+-- as many fewer are due as were handed out
+pub left-due : (after : List Pool → ℕ → List Pool) (on : Entry → Bool) (ck k used cap : ℕ) (es : List Entry) (ps : List Pool)
+    → due ck (handout after on ck k used cap es ps .left) ≡ due ck es - length (handout after on ck k used cap es ps .records)
+left-due after on ck k used cap es ps =
+    ap (due ck) (splits after on ck k used cap es ps .left-is)
+    ∙ below-drop (ck + 1) (length (handout after on ck k used cap es ps .records)) es (at-most after on ck k used cap es ps .1)
 
 -- a handout of all entries leaves none
 pub empties : (after : List Pool → ℕ → List Pool) (on : Entry → Bool) (ck k used cap : ℕ) (es : List Entry) (ps : List Pool)

@@ -1,25 +1,13 @@
--- How many entries are due, and repeated ticks with nothing between them.
-use Prim.Native.Nat.{_+_, _-_, _/_, _≤_, suc, zero, ℕ}
-use Rattle.rules.specs.Tests.{unless}
+-- Repeated ticks with nothing between them, and the room that they need.
+use Prim.Native.Nat.{_*_, _+_, _-_, _/_, _≤_, suc, zero, ℕ}
 use Rattle.store.specs.Layout.{sizeAt}
 use Rattle.store.specs.Pools.{Pool, findAt}
-use Rattle.table.specs.Entries.{Entry, time}
-use Rattle.table.specs.Order.{below}
+use Rattle.store.specs.declared.Setup.{Setup}
+use Rattle.table.specs.Entries.{Entry}
 use Rattle.turn.specs.Turns.{Handout, handout, packetOf, stop}
-use lib.Dec.{leb}
 use lib.ListN.{length}
 use mathlib.Core.Bool.{Bool}
-use mathlib.Core.List.{List, [], _++_, _∷_}
-use Rattle.store.specs.declared.Setup.{Setup}
-
--- the due entries at the front
-abbrev pub due : ℕ → List Entry → ℕ
-due ck es = below (ck + 1) es
-
--- the due entries, wherever they stand
-unfoldable pub dueCount : ℕ → List Entry → ℕ
-dueCount ck [] = 0
-dueCount ck (e ∷ es) = unless (leb (time e) ck) (dueCount ck es) (suc (dueCount ck es))
+use mathlib.Core.List.{List, _++_}
 
 -- no packet is longer than big
 unfoldable pub Short : ℕ → List Pool → Type 0
@@ -43,3 +31,7 @@ roundedUp d k = (d + (k - 1)) / k
 -- slot sizes rise: the last subpool's is the largest
 abbrev pub largestSlot : Setup → ℕ
 largestSlot su = sizeAt su (su .pools - 1)
+
+-- room for k records with packets of `big` bytes: the log's count and total, and for each record its offset and itself
+abbrev pub roomFor : ℕ → ℕ → ℕ
+roomFor k big = 8 + k * (21 + big)

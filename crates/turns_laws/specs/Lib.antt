@@ -1,2 +1,3 @@
 -- The words of the tick's laws.
+pub mod Due
 pub mod Draining

@@ -1,6 +1,7 @@
 -- `turns::release` meets its contract.
 -- Assumes nothing.
-use Rattle.turns.proofs.Room.{few, released, roomy}
+use Rattle.turns.proofs.Releasing.{released}
+use Rattle.turns.proofs.Room.{few, roomy}
 use native.Mathlib.Omega.{arith}
 use borrow.Author.Needs.{needs}
 use Rattle.turns.proofs.release.Statement.{statement}
@@ -33,7 +34,9 @@ returns c =
     let x = c .before .before in
     let o = x .before .before .before .before .before .before .before .before in
     let r = o .before .before .before .before .before .before .before in
-    released _ _ _ _ _ _ _ _ (r .measure .ensures .0) _ _ _ _ _ _ _ _ (r .measure .ensures .1) (o .hand-out .ensures) (x .remove .ensures)
+    let s = r .before .before .before .before .before .before .before .before in
+    released _ _ _ _ _ _ _ _ _ _ (r .measure .ensures .0) _ (s .pre .1 .1 .0) _ _ _ _ _
+    (r .measure .ensures .1) (o .hand-out .ensures) (x .remove .ensures)
 
 pub release-spec : {M : Type 1} → statement M
 release-spec =
