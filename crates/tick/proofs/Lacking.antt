@@ -14,10 +14,11 @@ use Rattle.schedule.specs.State.{State}
 use Rattle.store.specs.Pools.{Pool}
 use Rattle.table.specs.Entries.{Entry}
 use Rattle.tick.specs.Inside.{lack}
-use Rattle.tick.specs.Tick.{due, firstLacks, handedOut, tickIn, usable}
+use Rattle.tick.specs.Tick.{firstLacks, handedOut, tickIn, usable}
 use Rattle.time.specs.Time.{instant}
-use Rattle.turns.specs.Parts.{firstTotal}
-use Rattle.turns.specs.Turns.{always, handout, leave}
+use Rattle.turn.specs.Turns.{always, handout, leave}
+use Rattle.turns.specs.Released.{firstTotal}
+use Rattle.turns_laws.specs.Due.{due}
 
 -- what `lacking` answers, by the tests that it made
 module _ (n cap : ℕ) (es : List Entry) (ps : List Pool) where
@@ -53,13 +54,13 @@ module _ (limit : ℕ) (delete : Bool) (log : List ℕ) (s : State) where
   short-log h = rw (lt-leb 8 (length log) h)
 
   abbrev allowed : ℕ
-  allowed = min (due (s .clock) (s .entries)) limit
+  allowed = min (due (instant (s .clock)) (s .entries)) limit
 
   pub lacks-first : (t : ℕ) → 8 ≤ length log → t ≡ lack allowed (usable log) (s .entries) (s .pools) → 0 < t
       → tickIn limit delete log s ≡ refused (no 20 (t ∷ []))
   unfolding tickIn firstLacks lack unless
   lacks-first t h e l =
-      rw (le-leb 8 (length log) h, both (due (s .clock) (s .entries)) limit (ltb (usable log) (firstTotal (s .entries) (s .pools))))
+      rw (le-leb 8 (length log) h, both (due (instant (s .clock)) (s .entries)) limit (ltb (usable log) (firstTotal (s .entries) (s .pools))))
       (go (allOf (ltb 0 allowed ∷ ltb (usable log) (firstTotal (s .entries) (s .pools)) ∷ [])) e)
     where
       go : (b : Bool) → t ≡ unless (not b) (firstTotal (s .entries) (s .pools)) 0
@@ -74,7 +75,7 @@ module _ (limit : ℕ) (delete : Bool) (log : List ℕ) (s : State) where
       ≡ handedOut log s (handout (leave delete) (always (s .enabled)) (instant (s .clock)) limit 8 (usable log) (s .entries) (s .pools))
   unfolding tickIn firstLacks lack unless
   hands-out t h e l =
-      rw (le-leb 8 (length log) h, both (due (s .clock) (s .entries)) limit (ltb (usable log) (firstTotal (s .entries) (s .pools))))
+      rw (le-leb 8 (length log) h, both (due (instant (s .clock)) (s .entries)) limit (ltb (usable log) (firstTotal (s .entries) (s .pools))))
       (go (allOf (ltb 0 allowed ∷ ltb (usable log) (firstTotal (s .entries) (s .pools)) ∷ [])) e)
     where
       go : (b : Bool) → t ≡ unless (not b) (firstTotal (s .entries) (s .pools)) 0

@@ -1,16 +1,14 @@
 -- What a tick comes to, by the parts that the code took one after the other.
 -- Assumes nothing.
 use Prim.Native.Nat.{_+_, _-_, _<_, _≤_, min, ℕ}
-use lib.ListN.{drop, length, length-drop, take}
-use lib.Seq.{sets}
+use lib.ListN.{length, length-drop}
 use mathlib.Core.Bool.{Bool}
 use mathlib.Core.List.{List, [], _∷_}
-use mathlib.Core.Path.{_≡_, _∙_, ap, refl, sym}
+use mathlib.Core.Path.{_≡_, _∙_, ap, ap₂, sym}
 use native.Mathlib.Omega.{arith}
 use Rattle.record.specs.Refusals.{paper}
 use Rattle.record.specs.declared.Record.{Record}
 use Rattle.record.specs.declared.ScheduleRefusal.the-variants.{LogTooSmall}
-use Rattle.log.specs.Log.{LogRecord, logBytes}
 use Rattle.rules.specs.Papers.{Outcome, Paper, after, done, into, no, refused}
 use Rattle.schedule.proofs.Facts.{facts, table-sound}
 use Rattle.schedule.proofs.Promises.{does-done, does-refused}
@@ -20,23 +18,22 @@ use Rattle.schedule.specs.declared.Setup.{Setup}
 use Rattle.store.specs.Judge.{Sound as StoreSound}
 use Rattle.store.specs.Pools.{Pool}
 use Rattle.store.specs.View.{view}
-use Rattle.table.proofs.Rows.{length-unpack, take-unpack}
-use Rattle.table.proofs.Stays.{without-first}
-use Rattle.table.specs.Entries.{Entry, relaid, unpack}
+use Rattle.table.proofs.Rows.{length-unpack}
+use Rattle.table.specs.Entries.{Entry, unpack}
 use Rattle.table.specs.Order.{Held, below, Sound as TableSound}
 use Rattle.tick.proofs.Lacking.{hands-out, lacks-first, short-log}
 use Rattle.tick.specs.Inside.{lack}
 use Rattle.tick.specs.Promise.{TickDoes, left, tickPaper}
-use Rattle.tick.specs.Tick.{Logged, due, handedOut, tickIn, usable}
+use Rattle.tick.specs.Tick.{Logged, handedOut, tickIn, usable}
 use Rattle.tick.specs.declared.TickAnswer.the-variants.{HandedOut, Refused}
 use Rattle.tick.specs.declared.Ticked.{Ticked}
 use Rattle.time.specs.Time.{InRange, MomentInRange, instant, instantOf, momentOf}
 use Rattle.time.specs.declared.Moment.{Moment}
 use Rattle.time.specs.declared.UnixTime.{UnixTime}
-use Rattle.turns.specs.Parts.{Released, afterAll, turns}
-use Rattle.turns.specs.Turns.{Handout, always, handout, leave}
-use Rattle.turns_laws.proofs.Due.{below-drop}
-use Rattle.turns_laws.proofs.Split.{many, splits}
+use Rattle.turn.specs.Turns.{Handout, always, handout, leave}
+use Rattle.turns.specs.Released.{CarriedOut, Released}
+use Rattle.turns_laws.proofs.Split.{left-due, splits}
+use Rattle.turns_laws.specs.Due.{due}
 
 module _ (su : Setup) (r : Record) (st le ro log : List ℕ) (limit : ℕ) (delete : Bool) where
   abbrev s : State
@@ -63,9 +60,9 @@ module _ (su : Setup) (r : Record) (st le ro log : List ℕ) (limit : ℕ) (dele
       → TickDoes su r st le ro log (tickIn limit delete log) (tickPaper (x .answer)) (x .next) st le ro log
   tick-short x e h = answered x 8 e (short-log limit delete log s h)
 
-  module _ (cap d n t : ℕ) (long : 8 ≤ length log) (ec : cap ≡ usable log) (ed : d ≡ due (r .clock) es) (en : n ≡ min d limit)
+  module _ (cap d n t : ℕ) (long : 8 ≤ length log) (ec : cap ≡ usable log) (ed : d ≡ due (instant (r .clock)) es) (en : n ≡ min d limit)
       (et : t ≡ lack n cap es ps) where
-    lack-is : t ≡ lack (min (due (r .clock) es) limit) (usable log) es ps
+    lack-is : t ≡ lack (min (due (instant (r .clock)) es) limit) (usable log) es ps
     lack-is = et ∙ rw (en, ec, ed)
 
     pub tick-lacks : (x : Ticked) → (x .next ≡ r) × (x .answer ≡ Refused (LogTooSmall t)) → 0 < t
@@ -78,47 +75,24 @@ module _ (su : Setup) (r : Record) (st le ro log : List ℕ) (limit : ℕ) (dele
       h : Handout
       h = handout (leave delete) (always (r .enabled)) (instant (r .clock)) limit 8 (usable log) es ps
 
-      nn : n ≡ min (due (r .clock) es) limit
-      nn = en ∙ rw ed
+      nn : n ≡ min limit (due (instant (r .clock)) es)
+      nn = omega (arith, en, ed)
 
-      nn′ : n ≡ min limit (due (r .clock) es)
-      nn′ = omega (arith, nn)
-
-      count-is : length (h .records) ≡ m
+      out : CarriedOut (su .store) (r .count) st le ro log h m st′ le′ ro′ log′
       unfolding h
-      count-is =
-          let tk : take (min limit (due (r .clock) es)) es ≡ unpack n ro = rw (← nn′) (take-unpack (r .count) ro n (omega arith)) in
-          many (leave delete) (always (r .enabled)) (instant (r .clock)) limit 8 (usable log) es ps ∙ rw (tk, ← ec) (sym (w .many))
-
-      first-m : take (length (h .records)) es ≡ unpack m ro
-      first-m = rw count-is (take-unpack (r .count) ro m (omega (arith, w .some)))
-
-      records-are : h .records ≡ turns (leave delete) (always (r .enabled)) (unpack m ro) ps
-      unfolding h
-      records-are =
-          splits (leave delete) (always (r .enabled)) (instant (r .clock)) limit 8 (usable log) es ps .records-are
-          ∙ ap (λ (x : List Entry). turns (leave delete) (always (r .enabled)) x ps) first-m
-
-      pools-are : h .pools ≡ afterAll (leave delete) (unpack m ro) ps
-      unfolding h
-      pools-are =
-          splits (leave delete) (always (r .enabled)) (instant (r .clock)) limit 8 (usable log) es ps .pools-are
-          ∙ ap (λ (x : List Entry). afterAll (leave delete) x ps) first-m
-
-      left-is : h .left ≡ drop m es
-      unfolding h
-      left-is =
-          splits (leave delete) (always (r .enabled)) (instant (r .clock)) limit 8 (usable log) es ps .left-is
-          ∙ ap (λ (x : ℕ). drop x es) count-is
+      out = rw ec at (w .out (instant (r .clock)) limit nn)
 
       length-left : length (h .left) ≡ r .count - m
-      length-left = ap length left-is ∙ length-drop m es ∙ ap (λ (x : ℕ). x - m) (length-unpack (r .count) ro)
+      unfolding h
+      length-left =
+          ap length (splits (leave delete) (always (r .enabled)) (instant (r .clock)) limit 8 (usable log) es ps .left-is)
+          ∙ length-drop (length (h .records)) es
+          ∙ ap₂ _-_ (length-unpack (r .count) ro) (sym (out .many))
 
-      remain-is : due (r .clock) (h .left) ≡ d - m
+      remain-is : due (instant (r .clock)) (h .left) ≡ d - m
+      unfolding h
       remain-is =
-          ap (below (instant (r .clock) + 1)) left-is
-          ∙ below-drop (instant (r .clock) + 1) m es (omega (arith, w .some))
-          ∙ ap (λ (x : ℕ). x - m) (sym ed)
+          left-due (leave delete) (always (r .enabled)) (instant (r .clock)) limit 8 (usable log) es ps ∙ ap₂ _-_ (sym ed) (sym (out .many))
 
       next : State
       next = withEntries (h .left) (withPools (h .pools) s)
@@ -129,7 +103,7 @@ module _ (su : Setup) (r : Record) (st le ro log : List ℕ) (limit : ℕ) (dele
 
       whole : left (tickIn limit delete log s) ≡ done (m ∷ (d - m) ∷ []) next
       unfolding handedOut into next stateOf
-      whole = rw (hands, count-is, remain-is)
+      whole = rw (hands, ← (out .many), remain-is)
 
       record-is : recordOf next ≡ withCount (r .count - m) r
       unfolding next stateOf
@@ -142,9 +116,9 @@ module _ (su : Setup) (r : Record) (st le ro log : List ℕ) (limit : ℕ) (dele
             tables =
                 rw record-is at
                 (does-done su r st le ro (λ x. left (tickIn limit delete log x)) (m ∷ (d - m) ∷ []) next st′ le′ ro′ whole
-                (rw pools-are (w .turned .lists))
-                (w .moved ∙ ap (relaid ro (r .count)) (without-first m es ∙ sym left-is)));
-            log = rw hands (w .turned .wrote ∙ ap (λ (x : List LogRecord). sets log 0 (logBytes x)) (sym records-are));
+                (out .lists)
+                (out .moved));
+            log = rw hands (out .wrote);
           }
 
       pub tick-hands : (n′ : Record) → n′ ≡ withCount (r .count - m) r
@@ -169,5 +143,5 @@ module _ {su : Setup} {r : Record} {st le ro : List ℕ} (s : Sound su r st le r
   pub moment-ok : (m : Moment) → m ≡ momentOf (r .clock) → MomentInRange m
   moment-ok m e = rw e (record { nanos = clock-ok .nanos })
 
-pub due-is : (clock : UnixTime) (m : Moment) (es : List Entry) (d : ℕ) → m ≡ momentOf clock → d ≡ below (instantOf m + 1) es → d ≡ due clock es
+pub due-is : (clock : UnixTime) (m : Moment) (es : List Entry) (d : ℕ) → m ≡ momentOf clock → d ≡ below (instantOf m + 1) es → d ≡ due (instant clock) es
 due-is clock m es d e q = q ∙ rw e

@@ -3,7 +3,7 @@ use Prim.Native.Nat.{ℕ}
 use Rattle.rules.specs.Tests.{allOf, unless}
 use Rattle.store.specs.Pools.{Pool}
 use Rattle.table.specs.Entries.{Entry}
-use Rattle.turns.specs.Parts.{firstTotal}
+use Rattle.turns.specs.Released.{firstTotal}
 use lib.Dec.{ltb}
 use mathlib.Core.Bool.{not}
 use mathlib.Core.List.{List, [], _∷_}

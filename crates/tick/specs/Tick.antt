@@ -1,15 +1,13 @@
 -- The release tick (document 01, "The release tick and its log"): what is handed out, what it answers and what it leaves.
-use Prim.Native.Nat.{_+_, min, ℕ}
+use Prim.Native.Nat.{min, ℕ}
 use Rattle.log.specs.Log.{logBytes, mostLogBytes}
 use Rattle.rules.specs.Papers.{Outcome, done, no, refused}
 use Rattle.rules.specs.Tests.{allOf, unless}
 use Rattle.schedule.specs.State.{State, withEntries, withPools}
-use Rattle.table.specs.Entries.{Entry}
-use Rattle.table.specs.Order.{below}
 use Rattle.time.specs.Time.{instant}
-use Rattle.time.specs.declared.UnixTime.{UnixTime}
-use Rattle.turns.specs.Parts.{firstTotal}
-use Rattle.turns.specs.Turns.{Handout, always, handout, leave}
+use Rattle.turn.specs.Turns.{Handout, always, handout, leave}
+use Rattle.turns.specs.Released.{firstTotal}
+use Rattle.turns_laws.specs.Due.{due}
 use lib.Dec.{leb, ltb}
 use lib.ListN.{length}
 use lib.Seq.{sets}
@@ -20,14 +18,10 @@ use mathlib.Core.List.{List, [], _∷_}
 abbrev pub usable : List ℕ → ℕ
 usable log = min (length log) mostLogBytes
 
--- how many entries are due: at or before the present clock
-abbrev pub due : UnixTime → List Entry → ℕ
-due clock es = below (instant clock + 1) es
-
 -- the limit is at least 1, something is due, and a log of the first due record alone does not fit
 unfoldable pub firstLacks : ℕ → ℕ → State → Bool
 firstLacks limit cap s =
-    allOf (ltb 0 limit ∷ ltb 0 (due (s .clock) (s .entries)) ∷ ltb cap (firstTotal (s .entries) (s .pools)) ∷ [])
+    allOf (ltb 0 limit ∷ ltb 0 (due (instant (s .clock)) (s .entries)) ∷ ltb cap (firstTotal (s .entries) (s .pools)) ∷ [])
 
 -- what is left: the scheduler, and the log
 pub record Logged : Type 0 where
@@ -37,7 +31,7 @@ pub record Logged : Type 0 where
 -- the answer: how many were handed out, and how many due entries remain. The log's bytes from its total on stay
 unfoldable pub handedOut : List ℕ → State → Handout → Outcome Logged
 handedOut log s h =
-    done (length (h .records) ∷ due (s .clock) (h .left) ∷ [])
+    done (length (h .records) ∷ due (instant (s .clock)) (h .left) ∷ [])
     (record { state = withEntries (h .left) (withPools (h .pools) s); log = sets log 0 (logBytes (h .records)) })
 
 -- By: the limit on records, whether packets are deleted, the log. 20 for a log under 8 bytes, which every log needs, and for one
