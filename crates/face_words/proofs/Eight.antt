@@ -1,10 +1,10 @@
 -- The 8 words of an answer: values that were padded, and the loop that copies them.
 -- Assumes nothing.
 use Prim.Native.Nat.{_+_, _<_, _≤_, suc, zero, ℕ}
-use Rattle.face_words.proofs.Narrow.{each-at}
+use Rattle.face_reading.proofs.Narrow.{each-at}
+use Rattle.face_reading.specs.Reading.{word}
 use Rattle.face_words.specs.Inside.{eight}
 use Rattle.face_words.specs.Padding.{padded}
-use Rattle.face_words.specs.Reading.{word}
 use Rattle.store.proofs.Lists.{front-more}
 use Rattle.store.specs.View.{each}
 use lib.ListN.{drop, getD, length, length-append, length-replicate, length-take, replicate, set, take}

@@ -1,7 +1,5 @@
--- Laws of the C face's words.
+-- Laws of the words that the C face writes.
 pub mod Told
-pub mod Narrow
 pub mod Signed
-pub mod Standing
 pub mod Written
 pub mod Eight

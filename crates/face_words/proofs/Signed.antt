@@ -1,9 +1,7 @@
 -- Seconds and their two's complement, as the machine counts.
 -- Assumes nothing.
-use Prim.Native.Nat.{_-_, _<_, _≤_, suc, zero, ℕ}
-use Rattle.time.proofs.Signed.{pos-back}
+use Prim.Native.Nat.{_-_, _<_, _≤_, suc, ℕ}
 use Rattle.record.specs.Refusals.{wordOf}
-use Rattle.time.specs.declared.UnixTime.{UnixTime}
 use borrow.Author.Tests.{le-ltb, ltb-true}
 use lib.Dec.{T}
 use lib.IntN.{_-ℤ_, natAbs, negsuc, pos, ℤ}
@@ -14,23 +12,6 @@ use mir.Facts.{toZ-ofZ}
 use mir.Syntax.{w64}
 use mir.Val.{Fits, SFits, ofZ, toZ}
 use native.Mathlib.Omega.{arith}
-
-less-one : (k : ℕ) → negsuc 0 -ℤ pos k ≡ negsuc k
-less-one zero = refl
-less-one (suc k) = ap (λ n. negsuc (suc n)) (omega arith)
-
-module _ (w : ℕ) (h : 9223372036854775808 ≤ w) where
-  sum : toZ w64 (ofZ w64 (negsuc 0)) -ℤ toZ w64 (18446744073709551615 - w) ≡ negsuc (18446744073709551615 - w)
-  sum = ap (λ z. negsuc 0 -ℤ z) (pos-back (18446744073709551615 - w) (omega arith)) ∙ less-one (18446744073709551615 - w)
-
-  fits : SFits w64 (negsuc (18446744073709551615 - w))
-  fits = record { sfits = omega arith }
-
-  pub back-fits : SFits w64 (toZ w64 (ofZ w64 (negsuc 0)) -ℤ toZ w64 (18446744073709551615 - w))
-  back-fits = rw sum fits
-
-  pub back-is : toZ w64 (ofZ w64 (toZ w64 (ofZ w64 (negsuc 0)) -ℤ toZ w64 (18446744073709551615 - w))) ≡ negsuc (18446744073709551615 - w)
-  back-is = toZ-ofZ back-fits ∙ sum
 
 -- what is below zero, counted from -1 down
 abbrev low : ℤ → ℕ
@@ -89,7 +70,3 @@ module _ (z : ℤ) (f : SFits w64 z) (e : ltZ (toZ w64 (ofZ w64 z)) (pos 0) ≡ 
 
 pub held-word : (z : ℤ) (w : ℕ) → SFits w64 z → w ≡ wordOf (toZ w64 (ofZ w64 z)) → w ≡ wordOf z
 held-word z w f e = e ∙ ap wordOf (toZ-ofZ f)
-
-pub held-time : (z : ℤ) (n : ℕ) (t : UnixTime) → SFits w64 z → t ≡ record { secs = toZ w64 (ofZ w64 z); nanos = n }
-    → t ≡ record { secs = z; nanos = n }
-held-time z n t f e = e ∙ ap (λ (y : ℤ). record { secs = y; nanos = n }) (toZ-ofZ f)

@@ -1,6 +1,6 @@
 -- The record's words, as the stores leave them.
 -- Assumes nothing.
-use Prim.Native.Nat.{_<_, _≤_, ℕ}
+use Prim.Native.Nat.{_≤_, ℕ}
 use Rattle.face_words.specs.Inside.{writtenIf}
 use Rattle.store.specs.Refusals.{bit}
 use borrow.Author.Tests.{eq-eqb, ne-eqb}

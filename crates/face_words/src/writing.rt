@@ -1,5 +1,7 @@
 // The words of the record, written: only those that a call changes.
-use crate::answers;
+use crate::wide;
+use crate::wide32;
+use crate::word_of;
 use record::Record;
 use time::UnixTime;
 ghost use mathlib.Core.Path.{_≡_};
@@ -15,7 +17,7 @@ pub fn count(record: &mut [u64], n: usize)
     requires { ⌜ 6 ≤ length (now «record») ⌝ }
     ensures { λ r. ⌜ now («record» .exit) ≡ set (now («record» .entry)) 0 n ⌝ }
 {
-    record[0] = answers::wide(n);
+    record[0] = wide(n);
 }
 
 // The clock, where the call was carried out.
@@ -25,8 +27,8 @@ pub fn clock(record: &mut [u64], number: u32, t: UnixTime)
         ≡ writtenIf number (set (set (now («record» .entry)) 1 (wordOf (t .secs))) 2 (t .nanos)) (now («record» .entry)) ⌝ }
 {
     if number == 0 {
-        record[1] = answers::word_of(t.secs);
-        record[2] = answers::wide32(t.nanos);
+        record[1] = word_of(t.secs);
+        record[2] = wide32(t.nanos);
     }
 }
 
@@ -51,11 +53,11 @@ pub fn all(record: &mut [u64], number: u32, r: Record)
     if number == 0 {
         let c = r.clock;
         let m = r.margin;
-        record[0] = answers::wide(r.count);
-        record[1] = answers::word_of(c.secs);
-        record[2] = answers::wide32(c.nanos);
+        record[0] = wide(r.count);
+        record[1] = word_of(c.secs);
+        record[2] = wide32(c.nanos);
         record[3] = m.secs;
-        record[4] = answers::wide32(m.nanos);
+        record[4] = wide32(m.nanos);
         record[5] = r.enabled as u64;
     }
 }

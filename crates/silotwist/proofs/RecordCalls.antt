@@ -11,8 +11,9 @@ use Rattle.time.specs.Time.{inRange}
 use Rattle.time.specs.declared.UnixTime.{UnixTime}
 use Rattle.silotwist.proofs.Answering.{answers, answers-short, roomy, short}
 use Rattle.silotwist.specs.Face.{Answers, answering}
-use Rattle.face_words.specs.Inside.{Stands, eight, wordsOf, writtenIf}
-use Rattle.face_words.specs.Reading.{recordFrom}
+use Rattle.face_reading.specs.Inside.{Stands}
+use Rattle.face_words.specs.Inside.{eight, wordsOf, writtenIf}
+use Rattle.face_reading.specs.Reading.{recordFrom}
 use Rattle.silotwist.specs.RecordFace.{RecordFaces, clockWritten, longEnough, markWritten, recordCall}
 use Rattle.face_words.specs.declared.Words.{Words}
 use borrow.Author.Tests.{le-leb, lt-leb}

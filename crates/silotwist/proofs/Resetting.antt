@@ -19,8 +19,10 @@ use Rattle.time.specs.declared.UnixTime.{UnixTime}
 use Rattle.silotwist.proofs.ScheduleCalls.{carries, changes-no-answer, changes-short, stands-count}
 use Rattle.silotwist.proofs.ScheduleCalls.{faces-done, faces-no-answer, faces-short, worded-is}
 use Rattle.face_words.proofs.Written.{set-same}
-use Rattle.face_words.specs.Inside.{ReadsSetup, Stands, eight, shortPaper, wordsOf, writtenIf}
-use Rattle.face_words.specs.Reading.{recordFrom, word}
+use Rattle.face_reading.specs.Inside.{ReadsSetup, Stands}
+use Rattle.face_words.specs.Inside.{eight, wordsOf, writtenIf}
+use Rattle.schedule_answers.specs.Inside.{shortPaper}
+use Rattle.face_reading.specs.Reading.{recordFrom, word}
 use Rattle.silotwist.specs.ScheduleFace.{ScheduleFaces, allWritten, judgedCall, resetWritten, scheduleCall}
 use Rattle.face_words.specs.declared.Words.{Words}
 use lib.ListN.{drop, length, set}

@@ -17,8 +17,10 @@ use Rattle.table.specs.Order.{ordered}
 use Rattle.silotwist.proofs.Answering.{answers, answers-short, roomy, short}
 use Rattle.face_words.proofs.Written.{set-same}
 use Rattle.silotwist.specs.Face.{Answers}
-use Rattle.face_words.specs.Inside.{ReadsSetup, Stands, eight, fine, shortPaper, wordsOf}
-use Rattle.face_words.specs.Reading.{recordFrom, setupFrom, storeSetup, wellCounted, word}
+use Rattle.face_reading.specs.Inside.{ReadsSetup, Stands, fine}
+use Rattle.face_words.specs.Inside.{eight, wordsOf}
+use Rattle.schedule_answers.specs.Inside.{shortPaper}
+use Rattle.face_reading.specs.Reading.{recordFrom, setupFrom, storeSetup, wellCounted, word}
 use Rattle.silotwist.specs.RecordFace.{longEnough}
 use Rattle.silotwist.specs.ScheduleFace.{ScheduleFaces, countWritten, judgedCall, scheduleCall}
 use Rattle.face_words.specs.declared.Words.{Words}

@@ -11,8 +11,9 @@ use Rattle.store.specs.Promise.{Reads, Writes}
 use Rattle.store.specs.declared.Setup.{Setup}
 use Rattle.silotwist.proofs.Answering.{answers, answers-short, roomy, short}
 use Rattle.silotwist.specs.Face.{Answers, answering}
-use Rattle.face_words.specs.Inside.{ReadsStore, eight, fine, wordsOf}
-use Rattle.face_words.specs.Reading.{storeSetup, wellCounted}
+use Rattle.face_reading.specs.Inside.{ReadsStore, fine}
+use Rattle.face_words.specs.Inside.{eight, wordsOf}
+use Rattle.face_reading.specs.Reading.{storeSetup, wellCounted}
 use Rattle.silotwist.specs.StoreFace.{BufferFaces, StoreFaces, storeCall}
 use Rattle.face_words.specs.declared.Words.{Words}
 use lib.ListN.{drop, length}

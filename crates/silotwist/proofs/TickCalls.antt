@@ -12,8 +12,10 @@ use Rattle.tick.specs.Tick.{Logged}
 use Rattle.silotwist.proofs.Answering.{roomy, short}
 use Rattle.silotwist.proofs.ScheduleCalls.{changes, changes-no-answer, changes-short, judged-is, judgedOf, short-is, worded}
 use Rattle.silotwist.specs.Face.{answering}
-use Rattle.face_words.specs.Inside.{ReadsSetup, Stands, eight, shortPaper, wordsOf}
-use Rattle.face_words.specs.Reading.{recordFrom, word}
+use Rattle.face_reading.specs.Inside.{ReadsSetup, Stands}
+use Rattle.face_words.specs.Inside.{eight, wordsOf}
+use Rattle.schedule_answers.specs.Inside.{shortPaper}
+use Rattle.face_reading.specs.Reading.{recordFrom, word}
 use Rattle.silotwist.specs.ScheduleFace.{countWritten, judgedCall, scheduleCall}
 use Rattle.silotwist.specs.TickFace.{TickFaces}
 use Rattle.face_words.specs.declared.Words.{Words}

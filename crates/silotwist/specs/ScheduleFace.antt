@@ -14,7 +14,7 @@ use lib.ListN.{drop, length, set}
 use mathlib.Core.List.{List, [], _++_, _∷_}
 use mathlib.Core.Path.{_≡_}
 use Rattle.silotwist.specs.Face.{Answers, answering}
-use Rattle.face_words.specs.Reading.{recordFrom, recordWords, setupFrom, storeSetup, wellCounted}
+use Rattle.face_reading.specs.Reading.{recordFrom, recordWords, setupFrom, storeSetup, wellCounted}
 use Rattle.silotwist.specs.RecordFace.{longEnough}
 
 -- the answer's room; all of 1, the number of setup words first; then all of 2, the record's words first; and then as the call judges

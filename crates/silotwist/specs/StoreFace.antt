@@ -10,7 +10,7 @@ use Rattle.store.specs.declared.Setup.{Setup}
 use mathlib.Core.List.{List, [], _∷_}
 use mathlib.Core.Path.{_≡_}
 use Rattle.silotwist.specs.Face.{Answers, answering}
-use Rattle.face_words.specs.Reading.{storeSetup, wellCounted}
+use Rattle.face_reading.specs.Reading.{storeSetup, wellCounted}
 
 -- the answer's room; 1 for the number of setup words; and then the store's own judging, 1, 2, 3, and the call
 unfoldable pub storeCall : {A : Type 0} → List ℕ → List ℕ → List ℕ → List ℕ → (Setup → List Pool → Outcome A) → Outcome A

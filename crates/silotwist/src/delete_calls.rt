@@ -1,10 +1,8 @@
 // The deletions by window and by request ID.
-use face_words::answers;
-use face_words::reading;
 use face_words::telling;
 use face_words::writing;
 ghost use Rattle.deletions.specs.Deleting.{deleteByIdIn, deleteKeepingIn, deleteWindowIn};
-ghost use Rattle.face_words.specs.Reading.{windowFrom, word};
+ghost use Rattle.face_reading.specs.Reading.{windowFrom, word};
 ghost use Rattle.silotwist.specs.ScheduleFace.{ScheduleFaces, countWritten, judgedCall};
 
 #[no_mangle]
@@ -33,18 +31,18 @@ pub extern "C" fn silotwist_delete_window(
     if answer.len() < 8 {
         return 2;
     }
-    let su = reading::setup(setup);
+    let su = face_reading::setup(setup);
     if record.len() < 6 {
-        return telling::put(answer, reading::short_record(su));
+        return telling::put(answer, schedule_answers::short_record(su));
     }
-    let r = reading::record(record);
-    let from = reading::time(from_secs, from_nanos);
-    let to = reading::time(to_secs, to_nanos);
-    let v = reading::window(has_from, from, has_to, to);
+    let r = face_reading::record(record);
+    let from = face_reading::time(from_secs, from_nanos);
+    let to = face_reading::time(to_secs, to_nanos);
+    let v = face_reading::window(has_from, from, has_to, to);
     let c = deletions::delete_by_time_filter(su, r, store, lens, rows, v);
     let next = c.next;
     let a = c.answer;
-    let w = answers::cleared(a);
+    let w = schedule_answers::cleared(a);
     writing::count(record, next.count);
     telling::put(answer, w)
 }
@@ -69,15 +67,15 @@ pub extern "C" fn silotwist_delete_by_id_keep(
     if answer.len() < 8 {
         return 2;
     }
-    let su = reading::setup(setup);
+    let su = face_reading::setup(setup);
     if record.len() < 6 {
-        return telling::put(answer, reading::short_record(su));
+        return telling::put(answer, schedule_answers::short_record(su));
     }
-    let r = reading::record(record);
+    let r = face_reading::record(record);
     let c = deletions::delete_by_request_id(su, r, store, lens, rows, request_id);
     let next = c.next;
     let a = c.answer;
-    let w = answers::taken(a);
+    let w = schedule_answers::taken(a);
     writing::count(record, next.count);
     telling::put(answer, w)
 }
@@ -102,15 +100,15 @@ pub extern "C" fn silotwist_delete_by_id(
     if answer.len() < 8 {
         return 2;
     }
-    let su = reading::setup(setup);
+    let su = face_reading::setup(setup);
     if record.len() < 6 {
-        return telling::put(answer, reading::short_record(su));
+        return telling::put(answer, schedule_answers::short_record(su));
     }
-    let r = reading::record(record);
+    let r = face_reading::record(record);
     let c = deletions::delete_by_request_id_and_from_pool(su, r, store, lens, rows, request_id);
     let next = c.next;
     let a = c.answer;
-    let w = answers::freed(a);
+    let w = schedule_answers::freed(a);
     writing::count(record, next.count);
     telling::put(answer, w)
 }

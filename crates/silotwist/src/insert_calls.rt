@@ -1,9 +1,7 @@
 // The insertions.
-use face_words::answers;
-use face_words::reading;
 use face_words::telling;
 use face_words::writing;
-ghost use Rattle.face_words.specs.Reading.{word};
+ghost use Rattle.face_reading.specs.Reading.{word};
 ghost use Rattle.insertions.specs.Inserting.{insertStoredIn, insertUnwrappedIn, insertWrappedIn};
 ghost use Rattle.silotwist.specs.ScheduleFace.{ScheduleFaces, countWritten, judgedCall};
 
@@ -27,15 +25,15 @@ pub extern "C" fn silotwist_insert_wrapped(
     if answer.len() < 8 {
         return 2;
     }
-    let su = reading::setup(setup);
+    let su = face_reading::setup(setup);
     if record.len() < 6 {
-        return telling::put(answer, reading::short_record(su));
+        return telling::put(answer, schedule_answers::short_record(su));
     }
-    let r = reading::record(record);
+    let r = face_reading::record(record);
     let c = insertions::insert_wrapped_tc(su, r, store, lens, rows, packet);
     let next = c.next;
     let a = c.answer;
-    let w = answers::inserted(a);
+    let w = schedule_answers::inserted(a);
     writing::count(record, next.count);
     telling::put(answer, w)
 }
@@ -62,16 +60,16 @@ pub extern "C" fn silotwist_insert_unwrapped(
     if answer.len() < 8 {
         return 2;
     }
-    let su = reading::setup(setup);
+    let su = face_reading::setup(setup);
     if record.len() < 6 {
-        return telling::put(answer, reading::short_record(su));
+        return telling::put(answer, schedule_answers::short_record(su));
     }
-    let r = reading::record(record);
-    let t = reading::time(secs, nanos);
+    let r = face_reading::record(record);
+    let t = face_reading::time(secs, nanos);
     let c = insertions::insert_unwrapped_tc(su, r, store, lens, rows, t, packet);
     let next = c.next;
     let a = c.answer;
-    let w = answers::inserted(a);
+    let w = schedule_answers::inserted(a);
     writing::count(record, next.count);
     telling::put(answer, w)
 }
@@ -99,12 +97,12 @@ pub extern "C" fn silotwist_insert_stored(
     if answer.len() < 8 {
         return 2;
     }
-    let su = reading::setup(setup);
+    let su = face_reading::setup(setup);
     if record.len() < 6 {
-        return telling::put(answer, reading::short_record(su));
+        return telling::put(answer, schedule_answers::short_record(su));
     }
-    let r = reading::record(record);
-    let t = reading::time(secs, nanos);
+    let r = face_reading::record(record);
+    let t = face_reading::time(secs, nanos);
     let c = insertions::insert_unwrapped_and_stored_tc(
         su,
         r,
@@ -117,7 +115,7 @@ pub extern "C" fn silotwist_insert_stored(
     );
     let next = c.next;
     let a = c.answer;
-    let w = answers::done(a);
+    let w = schedule_answers::done(a);
     writing::count(record, next.count);
     telling::put(answer, w)
 }

@@ -1,6 +1,4 @@
 // The calls that see the record alone.
-use face_words::answers;
-use face_words::reading;
 use face_words::telling;
 use face_words::writing;
 use time::UnixTime;
@@ -25,16 +23,16 @@ pub extern "C" fn silotwist_set_clock(
         return 2;
     }
     if record.len() < 6 {
-        return telling::put(answer, answers::none(2));
+        return telling::put(answer, face_words::none(2));
     }
     let t = UnixTime {
         secs: secs,
         nanos: nanos,
     };
-    let r = reading::record(record);
+    let r = face_reading::record(record);
     let c = r.clocked(t);
     let a = c.answer;
-    let w = answers::done(a);
+    let w = schedule_answers::done(a);
     writing::clock(record, w.number, t);
     telling::put(answer, w)
 }
@@ -49,12 +47,12 @@ fn mark(record: &mut [u64], on: bool, answer: &mut [u64]) -> u32
         return 2;
     }
     if record.len() < 6 {
-        return telling::put(answer, answers::none(2));
+        return telling::put(answer, face_words::none(2));
     }
-    let r = reading::record(record);
+    let r = face_reading::record(record);
     let c = r.marked(on);
     let a = c.answer;
-    let w = answers::done(a);
+    let w = schedule_answers::done(a);
     writing::mark(record, w.number, on);
     telling::put(answer, w)
 }

@@ -1,13 +1,11 @@
 // Fresh start, count, window and reset.
-use face_words::answers;
-use face_words::reading;
 use face_words::telling;
 use face_words::writing;
 use time::Margin;
 ghost use lib.ListN.{length};
 ghost use Rattle.deletions.specs.Deleting.{resetIn};
 ghost use Rattle.deletions.specs.Windowing.{retrieveIn};
-ghost use Rattle.face_words.specs.Reading.{windowFrom, word};
+ghost use Rattle.face_reading.specs.Reading.{windowFrom, word};
 ghost use Rattle.schedule.specs.Counting.{countIn};
 ghost use Rattle.schedule.specs.Starting.{startIn};
 ghost use Rattle.silotwist.specs.Face.{Answers};
@@ -30,13 +28,13 @@ pub extern "C" fn silotwist_count(
     if answer.len() < 8 {
         return 2;
     }
-    let su = reading::setup(setup);
+    let su = face_reading::setup(setup);
     if record.len() < 6 {
-        return telling::put(answer, reading::short_record(su));
+        return telling::put(answer, schedule_answers::short_record(su));
     }
-    let r = reading::record(record);
+    let r = face_reading::record(record);
     let a = schedule::count(su, r, store, lens, rows);
-    let w = answers::counted(a);
+    let w = schedule_answers::counted(a);
     telling::put(answer, w)
 }
 
@@ -64,16 +62,16 @@ pub extern "C" fn silotwist_window(
     if answer.len() < 8 {
         return 2;
     }
-    let su = reading::setup(setup);
+    let su = face_reading::setup(setup);
     if record.len() < 6 {
-        return telling::put(answer, reading::short_record(su));
+        return telling::put(answer, schedule_answers::short_record(su));
     }
-    let r = reading::record(record);
-    let from = reading::time(from_secs, from_nanos);
-    let to = reading::time(to_secs, to_nanos);
-    let v = reading::window(has_from, from, has_to, to);
+    let r = face_reading::record(record);
+    let from = face_reading::time(from_secs, from_nanos);
+    let to = face_reading::time(to_secs, to_nanos);
+    let v = face_reading::window(has_from, from, has_to, to);
     let a = deletions::retrieve_by_time_filter(su, r, store, lens, rows, v);
-    let w = answers::retrieved(a);
+    let w = schedule_answers::retrieved(a);
     telling::put(answer, w)
 }
 
@@ -96,15 +94,15 @@ pub extern "C" fn silotwist_reset(
     if answer.len() < 8 {
         return 2;
     }
-    let su = reading::setup(setup);
+    let su = face_reading::setup(setup);
     if record.len() < 6 {
-        return telling::put(answer, reading::short_record(su));
+        return telling::put(answer, schedule_answers::short_record(su));
     }
-    let r = reading::record(record);
+    let r = face_reading::record(record);
     let c = deletions::reset(su, r, store, lens, rows);
     let next = c.next;
     let a = c.answer;
-    let w = answers::cleared(a);
+    let w = schedule_answers::cleared(a);
     writing::count(record, next.count);
     writing::mark(record, w.number, false);
     telling::put(answer, w)
@@ -134,12 +132,12 @@ pub extern "C" fn silotwist_fresh(
     if answer.len() < 8 {
         return 2;
     }
-    let su = reading::setup(setup);
+    let su = face_reading::setup(setup);
     if record.len() < 6 {
-        return telling::put(answer, reading::short_record(su));
+        return telling::put(answer, schedule_answers::short_record(su));
     }
-    let r = reading::record(record);
-    let t = reading::time(clock_secs, clock_nanos);
+    let r = face_reading::record(record);
+    let t = face_reading::time(clock_secs, clock_nanos);
     let m = Margin {
         secs: margin_secs,
         nanos: margin_nanos,
@@ -147,7 +145,7 @@ pub extern "C" fn silotwist_fresh(
     let c = schedule::fresh_start(su, r, store, lens, rows, t, m);
     let next = c.next;
     let a = c.answer;
-    let w = answers::done(a);
+    let w = schedule_answers::done(a);
     writing::all(record, w.number, next);
     telling::put(answer, w)
 }

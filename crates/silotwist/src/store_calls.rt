@@ -1,7 +1,5 @@
 // The store's calls.
 use face_words::Words;
-use face_words::answers;
-use face_words::reading;
 use face_words::telling;
 use store::Setup;
 use store::Verdict;
@@ -29,9 +27,9 @@ pub extern "C" fn silotwist_store_add(
     if answer.len() < 8 {
         return 2;
     }
-    let su = reading::store_setup(setup);
+    let su = face_reading::store_setup(setup);
     let a = store::add(su, store, lens, data);
-    let w = answers::added(a);
+    let w = store_answers::added(a);
     telling::put(answer, w)
 }
 
@@ -52,9 +50,9 @@ pub extern "C" fn silotwist_store_read(
     if answer.len() < 8 {
         return 2;
     }
-    let su = reading::store_setup(setup);
+    let su = face_reading::store_setup(setup);
     let a = store::read(su, store, lens, address, buffer);
-    let w = answers::length(a);
+    let w = store_answers::length(a);
     telling::put(answer, w)
 }
 
@@ -73,9 +71,9 @@ pub extern "C" fn silotwist_store_modify(
     if answer.len() < 8 {
         return 2;
     }
-    let su = reading::store_setup(setup);
+    let su = face_reading::store_setup(setup);
     let a = store::modify(su, store, lens, address);
-    let w = answers::length(a);
+    let w = store_answers::length(a);
     telling::put(answer, w)
 }
 
@@ -94,7 +92,7 @@ pub extern "C" fn silotwist_store_part(
     if answer.len() < 8 {
         return 2;
     }
-    let su = reading::store_setup(setup);
+    let su = face_reading::store_setup(setup);
     let w = part(su, store, lens, address);
     telling::put(answer, w)
 }
@@ -105,12 +103,16 @@ fn part(setup: Setup, store: &[u8], lens: &[u16], address: u64) -> Words
 {
     let j = store::judge(setup, store.len(), lens);
     match j {
-        Verdict::Refused(e) => answers::store_refusal(e),
+        Verdict::Refused(e) => store_answers::store_refusal(e),
         Verdict::Fine => {
             let f = store::judged::find(setup, store, lens, address);
             match f {
-                Whereabouts::Refused(e) => answers::store_refusal(e),
-                Whereabouts::At(s) => answers::two(0, answers::wide(s.from), answers::wide(s.len)),
+                Whereabouts::Refused(e) => store_answers::store_refusal(e),
+                Whereabouts::At(s) => face_words::two(
+                    0,
+                    face_words::wide(s.from),
+                    face_words::wide(s.len),
+                ),
             }
         }
     }
@@ -131,9 +133,9 @@ pub extern "C" fn silotwist_store_delete(
     if answer.len() < 8 {
         return 2;
     }
-    let su = reading::store_setup(setup);
+    let su = face_reading::store_setup(setup);
     let a = store::delete(su, store, lens, address);
-    let w = answers::deleted(a);
+    let w = store_answers::deleted(a);
     telling::put(answer, w)
 }
 
@@ -152,9 +154,9 @@ pub extern "C" fn silotwist_store_has(
     if answer.len() < 8 {
         return 2;
     }
-    let su = reading::store_setup(setup);
+    let su = face_reading::store_setup(setup);
     let a = store::has_element_at(su, store, lens, address);
-    let w = answers::presence(a);
+    let w = store_answers::presence(a);
     telling::put(answer, w)
 }
 
@@ -173,8 +175,8 @@ pub extern "C" fn silotwist_store_len(
     if answer.len() < 8 {
         return 2;
     }
-    let su = reading::store_setup(setup);
+    let su = face_reading::store_setup(setup);
     let a = store::len_of_data(su, store, lens, address);
-    let w = answers::length(a);
+    let w = store_answers::length(a);
     telling::put(answer, w)
 }

@@ -1,9 +1,7 @@
 // The release tick.
-use face_words::answers;
-use face_words::reading;
 use face_words::telling;
 use face_words::writing;
-ghost use Rattle.face_words.specs.Reading.{word};
+ghost use Rattle.face_reading.specs.Reading.{word};
 ghost use Rattle.silotwist.specs.ScheduleFace.{countWritten, judgedCall};
 ghost use Rattle.silotwist.specs.TickFace.{TickFaces};
 ghost use Rattle.tick.specs.Tick.{tickIn};
@@ -30,16 +28,16 @@ pub extern "C" fn silotwist_tick(
     if answer.len() < 8 {
         return 2;
     }
-    let su = reading::setup(setup);
+    let su = face_reading::setup(setup);
     if record.len() < 6 {
-        return telling::put(answer, reading::short_record(su));
+        return telling::put(answer, schedule_answers::short_record(su));
     }
-    let r = reading::record(record);
+    let r = face_reading::record(record);
     let most = limit as usize;
     let c = tick::tick(su, r, store, lens, rows, log, most, delete_packets);
     let next = c.next;
     let a = c.answer;
-    let w = answers::ticked(a);
+    let w = schedule_answers::ticked(a);
     writing::count(record, next.count);
     telling::put(answer, w)
 }

@@ -1,10 +1,10 @@
 -- `silotwist::delete_calls::silotwist_delete_window` meets its contract.
 -- Assumes nothing.
 use Rattle.deletions.specs.Deleting.{deleteWindowIn}
-use Rattle.face_words.specs.Reading.{windowFrom}
+use Rattle.face_reading.specs.Reading.{windowFrom}
 use Rattle.silotwist.specs.ScheduleFace.{countWritten}
 use Rattle.silotwist.proofs.ScheduleCalls.{changes-at, changes-no-answer, changes-short}
-use Rattle.face_words.proofs.Signed.{held-time}
+use Rattle.face_reading.proofs.Seconds.{held-time}
 use mathlib.Core.Path.{_∙_, ap₂}
 use borrow.Author.Needs.{needs}
 use Rattle.silotwist.proofs.delete_calls.silotwist_delete_window.Statement.{statement}

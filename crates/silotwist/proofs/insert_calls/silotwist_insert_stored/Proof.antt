@@ -3,7 +3,7 @@
 use Rattle.insertions.specs.Inserting.{insertStoredIn}
 use Rattle.silotwist.specs.ScheduleFace.{countWritten}
 use Rattle.silotwist.proofs.ScheduleCalls.{changes-at, changes-no-answer, changes-short}
-use Rattle.face_words.proofs.Signed.{held-time}
+use Rattle.face_reading.proofs.Seconds.{held-time}
 use borrow.Author.Needs.{needs}
 use Rattle.silotwist.proofs.insert_calls.silotwist_insert_stored.Statement.{statement}
 use Rattle.silotwist.proofs.insert_calls.silotwist_insert_stored.Tie as tie

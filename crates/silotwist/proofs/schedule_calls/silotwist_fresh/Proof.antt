@@ -1,7 +1,7 @@
 -- `silotwist::schedule_calls::silotwist_fresh` meets its contract.
 -- Assumes nothing.
 use Rattle.silotwist.proofs.Resetting.{starts-at, starts-no-answer, starts-short}
-use Rattle.face_words.proofs.Signed.{held-time}
+use Rattle.face_reading.proofs.Seconds.{held-time}
 use borrow.Author.Needs.{needs}
 use Rattle.silotwist.proofs.schedule_calls.silotwist_fresh.Statement.{statement}
 use Rattle.silotwist.proofs.schedule_calls.silotwist_fresh.Tie as tie

@@ -1,9 +1,9 @@
 -- `silotwist::schedule_calls::silotwist_window` meets its contract.
 -- Assumes nothing.
 use Rattle.deletions.specs.Windowing.{retrieveIn}
-use Rattle.face_words.specs.Reading.{windowFrom}
+use Rattle.face_reading.specs.Reading.{windowFrom}
 use Rattle.silotwist.proofs.ScheduleCalls.{looks-at, looks-no-answer, looks-short}
-use Rattle.face_words.proofs.Signed.{held-time}
+use Rattle.face_reading.proofs.Seconds.{held-time}
 use mathlib.Core.Path.{_∙_, ap₂}
 use borrow.Author.Needs.{needs}
 use Rattle.silotwist.proofs.schedule_calls.silotwist_window.Statement.{statement}

@@ -1,0 +1,135 @@
+-- Words of a good setup fit the fields that hold them; and the setup that was read.
+-- Assumes nothing.
+use Prim.Native.Nat.{_%_, _*_, _+_, _/_, _<_, _≤_, suc, zero, ℕ}
+use Rattle.face_reading.specs.Inside.{ReadsStore, fine, narrow}
+use Rattle.face_reading.specs.Reading.{column, storeSetup, switched, wellCounted, word}
+use Rattle.rules.proofs.All.{all-at, all-each, all-end, all-of, all-stop, and-left, and-right}
+use Rattle.rules.proofs.First.{from-more}
+use Rattle.store.specs.Judge.{poolOk, poolOkAt, setupOk}
+use Rattle.store.specs.Layout.{sizeAt, slotsAt}
+use Rattle.store.specs.Limits.{maxSlotSize, maxSlots, maxSubpools}
+use Rattle.store.specs.View.{each}
+use borrow.Author.Tests.{eq-eqb, eqb-false, eqb-true, le-ltb, leb-false, leb-true, lt-ltb, ltb-true}
+use lib.Dec.{eqb, leb, ltb}
+use lib.ListN.{getD, length}
+use mathlib.Core.Bool.{Bool, false, true}
+use mathlib.Core.List.{List, [], _∷_}
+use mathlib.Core.Path.{_∙_, _≡_, ap, refl}
+use native.Mathlib.Omega.{arith}
+use Rattle.store.specs.declared.Setup.{Setup}
+
+-- each f, at a place
+pub each-at : (f : ℕ → ℕ) (n i k : ℕ) → k < n → getD (each f i n) k 0 ≡ f (i + k)
+unfolding each
+each-at f zero i k l = absurd (omega arith)
+each-at f (suc n) i zero l = ap f (omega arith)
+each-at f (suc n) i (suc k) l = each-at f n (suc i) k (omega arith) ∙ ap f (omega arith)
+
+column-at : (from : ℕ) (ws : List ℕ) (k : ℕ) → k < maxSubpools → getD (column from ws) k 0 ≡ word ws (from + 2 * k)
+unfolding column
+column-at from ws k l = each-at (λ j. word ws (from + 2 * j)) maxSubpools 0 k l ∙ ap (λ j. word ws (from + 2 * j)) (omega arith)
+
+-- behind the last word
+pub beyond : (ws : List ℕ) (i : ℕ) → length ws ≤ i → word ws i ≡ 0
+beyond [] i l = refl
+beyond (w ∷ ws) zero l = absurd (omega arith)
+beyond (w ∷ ws) (suc i) l = beyond ws i (omega arith)
+
+pool-sound : (last size slots : ℕ) → poolOk last size slots ≡ true → (size ≤ maxSlotSize) × (slots ≤ maxSlots)
+pool-sound last size slots q = let h = all-each _ q in (leb-true _ _ (h .1 .0), leb-true _ _ (h .1 .1 .1 .0))
+
+module _ (su : Setup) (ok : setupOk su ≡ true) where
+  few : su .pools ≤ maxSubpools
+  unfolding setupOk
+  few = leb-true _ _ (all-each _ ok .1 .0)
+
+  pool : (k : ℕ) → k < su .pools → (sizeAt su k ≤ maxSlotSize) × (slotsAt su k ≤ maxSlots)
+  unfolding setupOk
+  pool k l = pool-sound _ _ _ (all-at (poolOkAt su) (su .pools) (all-each _ ok .1 .1 .0) k l)
+
+module _ (ws : List ℕ) (ok : fine ws ≡ true) where
+  counted : length ws ≡ 3 + 2 * word ws 0
+  unfolding fine wellCounted
+  counted = eqb-true _ _ (and-left (wellCounted ws) (setupOk (storeSetup ws)) ok)
+
+  good : setupOk (storeSetup ws) ≡ true
+  unfolding fine
+  good = and-right (wellCounted ws) (setupOk (storeSetup ws)) ok
+
+  pub fine-few : word ws 0 ≤ maxSubpools
+  fine-few = few (storeSetup ws) good
+
+  pub fine-counted : length ws ≡ 3 + 2 * word ws 0
+  fine-counted = counted
+
+  sizes-fit : (k : ℕ) → k < word ws 0 → word ws (4 + 2 * k) ≤ maxSlotSize
+  sizes-fit k l = let m : k < maxSubpools = omega (arith, fine-few) in rw (column-at 4 ws k m) at (pool (storeSetup ws) good k l .0)
+
+  slots-fit : (k : ℕ) → k < word ws 0 → word ws (3 + 2 * k) ≤ maxSlots
+  slots-fit k l = let m : k < maxSubpools = omega (arith, fine-few) in rw (column-at 3 ws k m) at (pool (storeSetup ws) good k l .1)
+
+  pub fine-narrow : narrow ws ≡ true
+  unfolding narrow
+  fine-narrow = all-of _ (2 * maxSubpools) (λ i l. lt-ltb _ _ (go i (leb (length ws) (3 + i)) refl))
+    where
+      even : (i : ℕ) → 3 + i < length ws → i % 2 ≡ 0 → word ws (3 + i) < 65536
+      even i l e =
+          let k : i / 2 < word ws 0 = omega (arith, fine-counted) in
+          let q : 3 + 2 * (i / 2) ≡ 3 + i = omega arith in
+          let s = rw q at (slots-fit (i / 2) k) in
+          omega arith
+
+      odd : (i : ℕ) → 3 + i < length ws → i % 2 ≡ 1 → word ws (3 + i) < 65536
+      odd i l e =
+          let k : i / 2 < word ws 0 = omega (arith, fine-counted) in
+          let q : 4 + 2 * (i / 2) ≡ 3 + i = omega arith in
+          let s = rw q at (sizes-fit (i / 2) k) in
+          omega arith
+
+      by : (i : ℕ) → 3 + i < length ws → (b : Bool) → eqb (i % 2) 0 ≡ b → word ws (3 + i) < 65536
+      by i l true e = even i l (eqb-true _ _ e)
+      by i l false e = odd i l (let n = eqb-false (i % 2) 0 e in omega arith)
+
+      go : (i : ℕ) → (b : Bool) → leb (length ws) (3 + i) ≡ b → word ws (3 + i) < 65536
+      go i true e = rw (beyond ws (3 + i) (leb-true _ _ e)) (omega arith)
+      go i false e = by i (leb-false _ _ e) (eqb (i % 2) 0) refl
+
+-- what narrow words are, one by one
+pub narrow-at : (ws : List ℕ) → narrow ws ≡ true → (i : ℕ) → i < 16 → word ws (3 + i) < 65536
+unfolding narrow
+narrow-at ws q i l = ltb-true _ _ (all-at (λ j. ltb (word ws (3 + j)) 65536) (2 * maxSubpools) q i l)
+
+-- what was read
+pub reads-bad : (ws : List ℕ) (su : Setup) → (fine ws ≡ true → ⊥) → setupOk su ≡ false → ReadsStore ws su
+reads-bad ws su n e = record { same = λ f. absurd (n f); bad = λ f. e }
+
+pub reads-good : (ws : List ℕ) (su : Setup) → wellCounted ws ≡ true → su ≡ storeSetup ws → ReadsStore ws su
+unfolding fine
+reads-good ws su w e = record { same = λ f. e; bad = λ f. rw e (rw w at f) }
+
+-- the loop that tests them
+abbrev pub Fits16 : List ℕ → ℕ → Type 0
+Fits16 ws j = ltb (word ws (3 + j)) 65536 ≡ true
+
+pub narrow-stop : (ws : List ℕ) (i w : ℕ) → i < 16 → w ≡ word ws (3 + i) → 65536 ≤ w → false ≡ narrow ws
+unfolding narrow
+narrow-stop ws i w l e h = all-stop (λ j. ltb (word ws (3 + j)) 65536) 16 i l (le-ltb _ _ (rw e at h))
+
+pub narrow-more : (ws : List ℕ) (i w : ℕ) → ((j : ℕ) → j < i → Fits16 ws j) → w ≡ word ws (3 + i) → w < 65536
+    → (j : ℕ) → j < i + 1 → Fits16 ws j
+narrow-more ws i w h e l j m = from-more (Fits16 ws) 0 i (λ k a b. h k b) (lt-ltb _ _ (rw e at l)) j (omega arith) m
+
+pub narrow-end : (ws : List ℕ) (i : ℕ) → 16 ≤ i → ((j : ℕ) → j < i → Fits16 ws j) → true ≡ narrow ws
+unfolding narrow
+narrow-end ws i l h = all-end (λ j. ltb (word ws (3 + j)) 65536) 16 i l h
+
+-- the setup, from what was read
+pub reads-all : (ws : List ℕ) (n : ℕ) (sizes slots : List ℕ) (spill : Bool) → n ≡ word ws 0 → length ws ≡ 3 + 2 * n
+    → sizes ≡ column 4 ws → slots ≡ column 3 ws → spill ≡ switched (word ws 1)
+    → ReadsStore ws (record { pools = n; sizes = sizes; slots = slots; spill = spill })
+unfolding wellCounted
+reads-all ws n sizes slots spill e l a b d =
+    reads-good ws _ (eq-eqb (length ws) (3 + 2 * word ws 0) (l ∙ ap (λ m. 3 + 2 * m) e)) (rw (e, a, b, d))
+
+pub differ : false ≡ true → ⊥
+differ e = let z : _≡_ {A = ℕ} 0 1 = cc in omega arith

@@ -1,0 +1,50 @@
+-- `face_reading::store_setup` meets its contract.
+-- Assumes nothing.
+use Rattle.face_reading.proofs.Narrow.{differ, fine-counted, fine-few, fine-narrow, reads-all, reads-bad}
+use Rattle.face_reading.specs.Reading.{switched}
+use borrow.Author.Tests.{not-false, not-true}
+use mathlib.Core.Path.{_∙_, ap, sym}
+use native.Mathlib.Omega.{arith}
+use borrow.Author.Needs.{needs}
+use Rattle.face_reading.proofs.store_setup.Statement.{statement}
+use Rattle.face_reading.proofs.store_setup.Tie as tie
+
+returns : tie.Need-returns
+returns c = reads-bad _ _ (λ f. omega (arith, fine-few _ f)) (c .bad-setup .ensures)
+
+returns-2 : tie.Need-returns-2
+returns-2 c = reads-bad _ _ (λ f. omega (arith, fine-counted _ f)) (c .bad-setup2 .ensures)
+
+returns-3 : tie.Need-returns-3
+returns-3 c = reads-bad _ _ (λ f. differ (sym (not-true _ (c .before .if3 .taken)) ∙ c .before .before .is-narrow .ensures ∙ fine-narrow _ f))
+    (c .bad-setup3 .ensures)
+
+slots-requires : tie.Need-slots-requires
+slots-requires c κs = sym (c .before .is-narrow .ensures) ∙ not-false _ (c .if3 .left)
+
+sizes-requires : tie.Need-sizes-requires
+sizes-requires c κs = sym (c .before .before .is-narrow .ensures) ∙ not-false _ (c .before .if3 .left)
+
+returns-4 : tie.Need-returns-4
+returns-4 c = reads-all _ _ _ _ _ (c .before .before .before .before .before .before .before .before .word .ensures) (search needs)
+    (c .before .before .sizes .ensures) (c .before .before .before .slots .ensures) (c .is-on .ensures ∙ ap switched (c .before .word2 .ensures))
+
+pub store-setup-spec : {M : Type 1} → statement M
+store-setup-spec =
+    tie.close
+    (tie.spec
+    (λ c κs. search needs)
+    (λ c κs. search needs)
+    returns
+    (λ c. search needs)
+    (λ c. search needs)
+    (λ c κs. search needs)
+    returns-2
+    (λ c κs. search needs)
+    (λ c κs. search needs)
+    returns-3
+    slots-requires
+    sizes-requires
+    (λ c κs. search needs)
+    (λ c κs. search needs)
+    returns-4)

@@ -1,0 +1,210 @@
+// The words that the C face reads: setup, record, a time and a window.
+use deletions::Window;
+use record::Record;
+use schedule::Setup;
+use time::Margin;
+use time::UnixTime;
+ghost use mathlib.Core.Path.{_≡_};
+ghost use mathlib.Core.Bool.{false, true};
+ghost use Prim.Native.Nat.{_<_};
+ghost use Rattle.store.specs.Judge.{setupOk as storeSetupOk};
+ghost use Rattle.face_reading.specs.Inside.{ReadsSetup, ReadsStore, Stands, clipped, narrow};
+ghost use Rattle.face_reading.specs.Reading.{column, recordFrom, signed as signedWord, switched, windowFrom, word as wordAt};
+
+// The least number that no field of the store's setup holds.
+const TOO_WIDE: u64 = 65536;
+
+// Word i; 0 behind the last.
+pub fn word(words: &[u64], i: usize) -> u64
+    ensures { λ r. ⌜ r ≡ wordAt (now (words .entry)) i ⌝ }
+{
+    if i < words.len() {
+        return words[i];
+    }
+    0
+}
+
+fn is_narrow(words: &[u64]) -> bool
+    ensures { λ r. ⌜ r ≡ narrow (now (words .entry)) ⌝ }
+{
+    let mut i: usize = 0;
+    while i < 16 {
+        let w = word(words, 3 + i);
+        if w >= TOO_WIDE {
+            return false;
+        }
+        i += 1;
+    }
+    true
+}
+
+fn narrowed(w: u64) -> u16
+    requires { ⌜ w < 65536 ⌝ }
+    ensures { λ r. ⌜ r ≡ w ⌝ }
+{
+    w as u16
+}
+
+fn narrow_word(words: &[u64], i: usize) -> u16
+    requires { ⌜ wordAt (now words) i < 65536 ⌝ }
+    ensures { λ r. ⌜ r ≡ wordAt (now (words .entry)) i ⌝ }
+{
+    narrowed(word(words, i))
+}
+
+fn slots(words: &[u64]) -> [u16; 8]
+    requires { ⌜ narrow (now words) ≡ true ⌝ }
+    ensures { λ r. ⌜ r ≡ column 3 (now (words .entry)) ⌝ }
+{
+    [
+        narrow_word(words, 3),
+        narrow_word(words, 5),
+        narrow_word(words, 7),
+        narrow_word(words, 9),
+        narrow_word(words, 11),
+        narrow_word(words, 13),
+        narrow_word(words, 15),
+        narrow_word(words, 17),
+    ]
+}
+
+fn sizes(words: &[u64]) -> [u16; 8]
+    requires { ⌜ narrow (now words) ≡ true ⌝ }
+    ensures { λ r. ⌜ r ≡ column 4 (now (words .entry)) ⌝ }
+{
+    [
+        narrow_word(words, 4),
+        narrow_word(words, 6),
+        narrow_word(words, 8),
+        narrow_word(words, 10),
+        narrow_word(words, 12),
+        narrow_word(words, 14),
+        narrow_word(words, 16),
+        narrow_word(words, 18),
+    ]
+}
+
+pub fn is_on(w: u64) -> bool
+    ensures { λ r. ⌜ r ≡ switched w ⌝ }
+{
+    w != 0
+}
+
+// A setup that refusal 1 is due for.
+fn bad_setup() -> store::Setup
+    ensures { λ r. ⌜ storeSetupOk r ≡ false ⌝ }
+{
+    store::Setup {
+        pools: 0,
+        sizes: [0, 0, 0, 0, 0, 0, 0, 0],
+        slots: [0, 0, 0, 0, 0, 0, 0, 0],
+        spill: false,
+    }
+}
+
+// The store's setup. A word that does not fit its field is no size of document 01: it is never cut.
+pub fn store_setup(words: &[u64]) -> store::Setup
+    ensures { λ r. ⌜ ReadsStore (now (words .entry)) r ⌝ }
+{
+    let pools = word(words, 0);
+    if pools > 8 {
+        return bad_setup();
+    }
+    let n = pools as usize;
+    if words.len() != 3 + 2 * n {
+        return bad_setup();
+    }
+    let fits = is_narrow(words);
+    if !fits {
+        return bad_setup();
+    }
+    let slots = slots(words);
+    let sizes = sizes(words);
+    let spill = is_on(word(words, 1));
+    store::Setup {
+        pools: n,
+        sizes: sizes,
+        slots: slots,
+        spill: spill,
+    }
+}
+
+// The whole setup.
+pub fn setup(words: &[u64]) -> Setup
+    ensures { λ r. ⌜ ReadsSetup (now (words .entry)) r ⌝ }
+{
+    let s = store_setup(words);
+    let n = word(words, 2);
+    Setup {
+        store: s,
+        entries: n as usize,
+    }
+}
+
+// Seconds from their two's complement.
+pub fn signed(w: u64) -> i64
+    ensures { λ r. ⌜ r ≡ signedWord w ⌝ }
+{
+    if w < 9223372036854775808 {
+        return w as i64;
+    }
+    let k = 18446744073709551615 - w;
+    -1 - (k as i64)
+}
+
+// Nanoseconds: a word that does not fit is out of range, and so is what is taken for it.
+fn nanos(w: u64) -> u32
+    ensures { λ r. ⌜ r ≡ clipped w ⌝ }
+{
+    if w < 4294967296 {
+        return w as u32;
+    }
+    4294967295
+}
+
+// The record.
+pub fn record(words: &[u64]) -> Record
+    ensures { λ r. ⌜ Stands (recordFrom (now (words .entry))) r ⌝ }
+{
+    let clock = UnixTime {
+        secs: signed(word(words, 1)),
+        nanos: nanos(word(words, 2)),
+    };
+    let margin = Margin {
+        secs: word(words, 3),
+        nanos: nanos(word(words, 4)),
+    };
+    let enabled = is_on(word(words, 5));
+    Record {
+        count: word(words, 0) as usize,
+        clock: clock,
+        margin: margin,
+        enabled: enabled,
+    }
+}
+
+// A time as C gives it.
+pub fn time(secs: i64, nanos: u32) -> UnixTime
+    ensures { λ r. ⌜ r ≡ record { secs = secs; nanos = nanos } ⌝ }
+{
+    UnixTime {
+        secs: secs,
+        nanos: nanos,
+    }
+}
+
+// A window: an end that it has not is not looked at.
+pub fn window(has_from: bool, from: UnixTime, has_to: bool, to: UnixTime) -> Window
+    ensures { λ r. ⌜ r ≡ windowFrom «has_from» from «has_to» to ⌝ }
+{
+    if has_from {
+        if has_to {
+            return Window::FromTo(from, to);
+        }
+        return Window::From(from);
+    }
+    if has_to {
+        return Window::To(to);
+    }
+    Window::All
+}

@@ -1,0 +1,2 @@
+-- Laws of the scheduler's answers in words.
+pub mod Carried

@@ -1,0 +1,2 @@
+-- For the functions below the calls of the C face.
+pub mod Inside

@@ -1,0 +1,172 @@
+// The scheduler's answers and refusals in words: document 01's number and values.
+use face_words::Words;
+use face_words::none;
+use face_words::one;
+use face_words::two;
+use face_words::wide;
+use face_words::wide8;
+use face_words::wide32;
+use face_words::word_of;
+use record::Done;
+use record::ScheduleRefusal;
+use schedule::Setup;
+use store_answers::store_refusal;
+use time::Margin;
+use time::UnixTime;
+ghost use mathlib.Core.Path.{_≡_};
+ghost use mathlib.Core.List.{[]};
+ghost use Rattle.deletions.specs.Answers.{clearedPaper, freedPaper, lastPaper, retrievedPaper, takenPaper};
+ghost use Rattle.face_words.specs.Inside.{wordsOf};
+ghost use Rattle.insertions.specs.Answers.{insertedPaper};
+ghost use Rattle.record.specs.Refusals.{donePaper, marginWords, paper, timeWords};
+ghost use Rattle.rules.specs.Papers.{no};
+ghost use Rattle.schedule.specs.Answers.{countedPaper};
+ghost use Rattle.schedule_answers.specs.Inside.{carrying, shortPaper};
+ghost use Rattle.tick.specs.Promise.{tickPaper};
+
+// The refusal of a record with too few words: 1 where the setup is bad, and else 2.
+pub fn short_record(setup: Setup) -> Words
+    ensures { λ r. ⌜ r ≡ wordsOf (shortPaper setup) ⌝ }
+{
+    let ok = schedule::setup_ok(setup);
+    if ok {
+        return none(2);
+    }
+    none(1)
+}
+
+// Refusal 13: clock, margin, release.
+fn late(clock: UnixTime, margin: Margin, release: UnixTime) -> Words
+    ensures { λ r. ⌜ r ≡ wordsOf (no 13 (timeWords clock (marginWords margin (timeWords release [])))) ⌝ }
+{
+    let c = word_of(clock.secs);
+    let cn = wide32(clock.nanos);
+    let mn = wide32(margin.nanos);
+    let t = word_of(release.secs);
+    let tn = wide32(release.nanos);
+    Words {
+        number: 13,
+        values: [c, cn, margin.secs, mn, t, tn, 0, 0],
+    }
+}
+
+pub fn refusal(e: ScheduleRefusal) -> Words
+    ensures { λ r. ⌜ r ≡ wordsOf (paper e) ⌝ }
+{
+    match e {
+        ScheduleRefusal::Store(s) => store_refusal(s),
+        ScheduleRefusal::BadTime => none(4),
+        ScheduleRefusal::WrongService(n) => one(5, wide8(n)),
+        ScheduleRefusal::WrongSubservice(n) => one(6, wide8(n)),
+        ScheduleRefusal::TcDataEmpty => none(7),
+        ScheduleRefusal::BadTimestamp => none(8),
+        ScheduleRefusal::TcUnreadable => none(9),
+        ScheduleRefusal::NestedScheduledTc => none(10),
+        ScheduleRefusal::ReleaseTimeInTimeMargin {
+            clock,
+            margin,
+            release,
+        } => late(clock, margin, release),
+        ScheduleRefusal::ScheduleFull => none(14),
+        ScheduleRefusal::ReversedWindow => none(15),
+        ScheduleRefusal::LogTooSmall(t) => one(20, wide(t)),
+    }
+}
+
+pub fn done(a: Done) -> Words
+    ensures { λ r. ⌜ r ≡ wordsOf (donePaper a) ⌝ }
+{
+    match a {
+        Done::Ok => none(0),
+        Done::Refused(e) => refusal(e),
+    }
+}
+
+pub fn counted(a: schedule::Counted) -> Words
+    ensures { λ r. ⌜ r ≡ wordsOf (countedPaper a) ⌝ }
+{
+    match a {
+        schedule::Counted::Count(n) => one(0, wide(n)),
+        schedule::Counted::Refused(e) => refusal(e),
+    }
+}
+
+pub fn inserted(a: insertions::InsertAnswer) -> Words
+    ensures { λ r. ⌜ r ≡ wordsOf (insertedPaper a) ⌝ }
+{
+    match a {
+        insertions::InsertAnswer::Inserted(i) => two(0, i.addr, i.request_id),
+        insertions::InsertAnswer::Refused(e) => refusal(e),
+    }
+}
+
+pub fn retrieved(a: deletions::Retrieved) -> Words
+    ensures { λ r. ⌜ r ≡ wordsOf (retrievedPaper a) ⌝ }
+{
+    match a {
+        deletions::Retrieved::Rows(p) => two(0, wide(p.first), wide(p.number)),
+        deletions::Retrieved::Refused(e) => refusal(e),
+    }
+}
+
+pub fn taken(a: deletions::TakeAnswer) -> Words
+    ensures { λ r. ⌜ r ≡ wordsOf (takenPaper a) ⌝ }
+{
+    match a {
+        deletions::TakeAnswer::NoMatch => one(0, 0),
+        deletions::TakeAnswer::Address(address) => two(0, 1, address),
+        deletions::TakeAnswer::Refused(e) => refusal(e),
+    }
+}
+
+// An answer that carries another behind two words: that one's number, and its values.
+fn behind(a: u64, b: u64, w: Words) -> Words
+    ensures { λ r. ⌜ r ≡ carrying a b w ⌝ }
+{
+    let v = w.values;
+    Words {
+        number: 0,
+        values: [a, b, wide32(w.number), v[0], v[1], v[2], v[3], v[4]],
+    }
+}
+
+fn last(a: deletions::Last) -> Words
+    ensures { λ r. ⌜ r ≡ wordsOf (lastPaper a) ⌝ }
+{
+    match a {
+        deletions::Last::None => none(0),
+        deletions::Last::Missing(e) => store_refusal(e),
+    }
+}
+
+pub fn cleared(a: deletions::ClearAnswer) -> Words
+    ensures { λ r. ⌜ r ≡ wordsOf (clearedPaper a) ⌝ }
+{
+    match a {
+        deletions::ClearAnswer::Done(t) => {
+            let l = t.last;
+            behind(wide(t.deleted), wide(t.missing), last(l))
+        }
+        deletions::ClearAnswer::Refused(e) => refusal(e),
+    }
+}
+
+pub fn freed(a: deletions::FreeAnswer) -> Words
+    ensures { λ r. ⌜ r ≡ wordsOf (freedPaper a) ⌝ }
+{
+    match a {
+        deletions::FreeAnswer::NoMatch => one(0, 0),
+        deletions::FreeAnswer::Deleted => two(0, 1, 1),
+        deletions::FreeAnswer::Missing(e) => behind(1, 0, store_refusal(e)),
+        deletions::FreeAnswer::Refused(e) => refusal(e),
+    }
+}
+
+pub fn ticked(a: tick::TickAnswer) -> Words
+    ensures { λ r. ⌜ r ≡ wordsOf (tickPaper a) ⌝ }
+{
+    match a {
+        tick::TickAnswer::HandedOut(h) => two(0, wide(h.m), wide(h.remain)),
+        tick::TickAnswer::Refused(e) => refusal(e),
+    }
+}
