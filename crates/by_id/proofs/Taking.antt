@@ -10,19 +10,19 @@ use Rattle.record.specs.declared.Record.{Record}
 use Rattle.rules.specs.Papers.{Outcome, Paper, after, done, no, refused, says}
 use Rattle.rules.specs.Tests.{unless}
 use Rattle.store.proofs.Laid.{leaves-same}
-use Rattle.store.proofs.Numbers.{not-done}
+use Rattle.lookup.proofs.Numbers.{not-done}
 use Rattle.store.specs.Calls.{deleteIn}
-use Rattle.store.specs.Pools.{Pool}
+use Rattle.slots.specs.Pools.{Pool}
 use Rattle.store.specs.Refusals.{deletedPaper}
-use Rattle.store.specs.View.{Leaves, view}
+use Rattle.slots.specs.View.{Leaves, view}
 use Rattle.store.specs.declared.Deleted.{Deleted}
 use Rattle.store.specs.declared.Deleted.the-variants as D
 use Rattle.store_laws.proofs.Numbers.{delete-numbered}
-use Rattle.table.proofs.Rows.{getD-unpack, length-unpack, relaid-same}
-use Rattle.table.proofs.Stays.{length-without}
-use Rattle.table.specs.Edits.{afterRemove, without}
-use Rattle.table.specs.Entries.{Entry, row, unpack, width}
-use Rattle.table.specs.Match.{none, victim}
+use Rattle.rows.proofs.Rows.{getD-unpack, length-unpack, relaid-same}
+use Rattle.table_edit.proofs.Stays.{length-without}
+use Rattle.table_edit.specs.Edits.{afterRemove, without}
+use Rattle.rows.specs.Entries.{Entry, row, unpack, width}
+use Rattle.selection.specs.Match.{none, victim}
 use Rattle.by_id.specs.Answers.{freedPaper}
 use Rattle.by_id.specs.ById.{deleteByIdIn, deleteKeepingIn, freed, takeIn}
 use Rattle.by_id.specs.Inside.{freedOf}

@@ -2,7 +2,7 @@
 use mathlib.Core.List.{[], _∷_}
 use Rattle.record.specs.Refusals.{paper}
 use Rattle.rules.specs.Papers.{Paper, no}
-use Rattle.store.specs.Refusals.{paper as storePaper}
+use Rattle.lookup.specs.Refusals.{paper as storePaper}
 use Rattle.by_id.specs.declared.FreeAnswer.{FreeAnswer}
 use Rattle.by_id.specs.declared.FreeAnswer.the-variants as F
 use Rattle.by_id.specs.declared.TakeAnswer.{TakeAnswer}

@@ -6,9 +6,9 @@ use mathlib.Core.List.{List, [], _∷_}
 use Rattle.rules.specs.Papers.{Outcome, done, refused}
 use Rattle.rules.specs.Tests.{unless}
 use Rattle.store.specs.Calls.{deleteIn}
-use Rattle.store.specs.Pools.{Pool}
-use Rattle.table.specs.Edits.{without}
-use Rattle.table.specs.Match.{none, victim}
+use Rattle.slots.specs.Pools.{Pool}
+use Rattle.table_edit.specs.Edits.{without}
+use Rattle.selection.specs.Match.{none, victim}
 use Rattle.schedule.specs.State.{State, withEntries, withPools}
 
 -- no match answers 0. One form answers 1 and the address, and keeps the packet

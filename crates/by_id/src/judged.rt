@@ -29,15 +29,15 @@ pub fn delete_by_request_id(
         (takenPaper (c .answer)) (c .next) (now (store .entry)) (now (lens .entry)) (now (rows .exit)) ⌝ }
 {
     let n = rec.count;
-    let k = table::find::victim(rows, n, request_id);
+    let k = selection::find::victim(rows, n, request_id);
     if n <= k {
         return Taken {
             next: rec,
             answer: TakeAnswer::NoMatch,
         };
     }
-    let info = table::row::tc_info(rows, n, k);
-    table::edit::remove(rows, n, k, 1);
+    let info = rows::tc_info(rows, n, k);
+    table_edit::remove(rows, n, k, 1);
     Taken {
         next: with_count(rec, n - 1),
         answer: TakeAnswer::Address(info.addr),
@@ -59,15 +59,15 @@ pub fn delete_by_request_id_and_from_pool(
         (freedPaper (c .answer)) (c .next) (now (store .exit)) (now (lens .exit)) (now (rows .exit)) ⌝ }
 {
     let n = rec.count;
-    let k = table::find::victim(rows, n, request_id);
+    let k = selection::find::victim(rows, n, request_id);
     if n <= k {
         return Freed {
             next: rec,
             answer: FreeAnswer::NoMatch,
         };
     }
-    let info = table::row::tc_info(rows, n, k);
-    table::edit::remove(rows, n, k, 1);
+    let info = rows::tc_info(rows, n, k);
+    table_edit::remove(rows, n, k, 1);
     let s = setup.store;
     let d = store::judged::delete(s, store, lens, info.addr);
     Freed {

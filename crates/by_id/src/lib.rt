@@ -1,7 +1,7 @@
 // The deletions by request ID (document 01, module 5): one keeps the packet, the other deletes it too.
 use record::Record;
 use record::ScheduleRefusal;
-use store::StoreRefusal;
+use slots::StoreRefusal;
 
 pub mod judged;
 

@@ -4,13 +4,15 @@ use Rattle.client.specs.Answers.{oneIfDone}
 use Rattle.client.specs.Sweep.{countAll, one, sweepIn, without, withoutAll}
 use Rattle.rules.specs.Papers.{Paper, after, done, no, says}
 use Rattle.store.proofs.Laid.{leaves-as, leaves-now, leaves-same, leaves-then}
-use Rattle.store.proofs.Numbers.{not-done}
-use Rattle.store.specs.Calls.{deleteIn, ifHeld, ifNamed}
-use Rattle.store.specs.Judge.{Sound}
-use Rattle.store.specs.Pools.{Found, Pool, edit, find, held, noPool, noSlot, vacant, wipe}
+use Rattle.lookup.proofs.Numbers.{not-done}
+use Rattle.store.specs.Calls.{deleteIn}
+use Rattle.lookup.specs.Calls.{ifHeld, ifNamed}
+use Rattle.layout.specs.Judge.{Sound}
+use Rattle.slots.specs.Pools.{Found, Pool, find, held, noPool, noSlot, vacant}
+use Rattle.store.specs.Edits.{edit, wipe}
 use Rattle.store.specs.Promise.{Does}
 use Rattle.store.specs.Refusals.{deletedPaper}
-use Rattle.store.specs.View.{Leaves, view}
+use Rattle.slots.specs.View.{Leaves, view}
 use Rattle.store_laws.proofs.StaysSound.{delete-stays}
 use lib.ListN.{drop, drop-of-length-le, getD, length}
 use lib.Seq.{drop-cons}
@@ -18,7 +20,7 @@ use mathlib.Core.List.{List, [], _∷_}
 use mathlib.Core.Path.{_∙_, _≡_, ap, refl}
 use native.Mathlib.Numerals.{add-one}
 use native.Mathlib.Omega.{arith}
-use Rattle.store.specs.declared.Setup.{Setup}
+use Rattle.layout.specs.declared.Setup.{Setup}
 use Rattle.store.specs.declared.Deleted.{Deleted}
 use Rattle.store.specs.declared.Deleted.the-variants as D
 

@@ -1,7 +1,7 @@
 -- The numbers of an answer.
 use Prim.Native.Nat.{ℕ}
 use Rattle.rules.specs.Papers.{Paper, no}
-use Rattle.store.specs.Refusals.{paper}
+use Rattle.lookup.specs.Refusals.{paper}
 use mathlib.Core.List.{[], _∷_}
 use Rattle.store.specs.declared.Deleted.{Deleted}
 use Rattle.store.specs.declared.Deleted.the-variants as D

@@ -2,7 +2,7 @@
 use Prim.Native.Nat.{_+_, ℕ}
 use Rattle.rules.specs.Papers.{Outcome, after, done}
 use Rattle.store.specs.Calls.{deleteIn}
-use Rattle.store.specs.Pools.{Pool}
+use Rattle.slots.specs.Pools.{Pool}
 use mathlib.Core.List.{List, [], _∷_}
 
 -- the subpools after one deletion, and 1 where there was a packet

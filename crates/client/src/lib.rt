@@ -2,15 +2,15 @@
 ghost use mathlib.Core.Path.{_≡_};
 ghost use mathlib.Core.List.{[], _∷_};
 ghost use Prim.Native.Nat.{_≤_};
-ghost use Rattle.store.specs.Judge.{Sound};
+ghost use Rattle.layout.specs.Judge.{Sound};
 ghost use Rattle.rules.specs.Papers.{no};
-ghost use Rattle.store.specs.Calls.{judging};
+ghost use Rattle.lookup.specs.Calls.{judging};
 ghost use Rattle.store.specs.Promise.{Does, Writes};
 ghost use Rattle.client.specs.Sweep.{sweepIn};
 ghost use Rattle.client.specs.Answers.{sweptPaper, oneIfDone};
+use layout::Setup;
+use slots::StoreRefusal;
 use store::Deleted;
-use store::Setup;
-use store::StoreRefusal;
 use store::Verdict;
 
 pub enum Swept {
@@ -46,7 +46,7 @@ pub fn sweep_judged(setup: Setup, bytes: &mut [u8], lens: &mut [u16], addrs: &[u
 pub fn sweep(setup: Setup, bytes: &mut [u8], lens: &mut [u16], addrs: &[u64]) -> Swept
     ensures { λ r. ⌜ Writes setup (now (bytes .entry)) (now (lens .entry)) (judging setup (now (bytes .entry)) (now (lens .entry)) (sweepIn (now (addrs .entry)))) (sweptPaper r) (now (bytes .exit)) (now (lens .exit)) ⌝ }
 {
-    let j = store::judge(setup, bytes.len(), lens);
+    let j = store_public::judge(setup, bytes.len(), lens);
     match j {
         Verdict::Refused(e) => Swept::Refused(e),
         Verdict::Fine => Swept::Gone(sweep_judged(setup, bytes, lens, addrs)),

@@ -91,7 +91,7 @@ fn call(
     }
     if k == LOSE {
         let setup = shift::setup();
-        answers::deleted(store::delete(setup.store, store, lens, line::number(text, 1)));
+        answers::deleted(store_public::delete(setup.store, store, lens, line::number(text, 1)));
         return rec;
     }
     mark(rec, k, text)
@@ -128,7 +128,7 @@ fn uplink(
 }
 
 fn sent(rec: Record, outer: &[u8], store: &mut [u8], lens: &mut [u16], rows: &mut [u64]) -> Record {
-    let i = insertions::insert_wrapped_tc(shift::setup(), rec, store, lens, rows, outer);
+    let i = schedule_public::insert_wrapped_tc(shift::setup(), rec, store, lens, rows, outer);
     let a = i.answer;
     answers::inserted(a);
     i.next

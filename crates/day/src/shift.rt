@@ -14,7 +14,7 @@ pub struct Shift {
 // Six slots of 16 bytes, two of 32, and eight entries.
 pub fn setup() -> Setup {
     Setup {
-        store: store::Setup {
+        store: layout::Setup {
             pools: 2,
             sizes: [16, 32, 0, 0, 0, 0, 0, 0],
             slots: [6, 2, 0, 0, 0, 0, 0, 0],

@@ -12,16 +12,17 @@ use Rattle.record.specs.Refusals.{paper}
 use Rattle.record.specs.declared.Record.{Record}
 use Rattle.record.specs.declared.ScheduleRefusal.{ScheduleRefusal}
 use Rattle.rules.specs.Papers.{Paper, done, no}
-use Rattle.store.specs.View.{view}
-use Rattle.table.proofs.Rows.{length-unpack}
-use Rattle.table.proofs.WindowLaws.{window-covered, window-rows}
-use Rattle.table.proofs.Stays.{length-without}
-use Rattle.table.specs.Edits.{afterRemove, without}
-use Rattle.table.specs.Entries.{Entry, unpack}
-use Rattle.table.specs.Order.{ordered}
-use Rattle.table.specs.Windows.{firstRow, inWindow, outside}
-use Rattle.table.specs.declared.Part.{Part}
-use Rattle.table.specs.declared.TimeWindow.{TimeWindow}
+use Rattle.slots.specs.View.{view}
+use Rattle.rows.proofs.Rows.{length-unpack}
+use Rattle.selection.proofs.WindowLaws.{window-covered}
+use Rattle.table_edit.proofs.WindowLeft.{window-rows}
+use Rattle.table_edit.proofs.Stays.{length-without}
+use Rattle.table_edit.specs.Edits.{afterRemove, without}
+use Rattle.rows.specs.Entries.{Entry, unpack}
+use Rattle.rows.specs.Order.{ordered}
+use Rattle.selection.specs.Windows.{firstRow, inWindow, outside}
+use Rattle.selection.specs.declared.Part.{Part}
+use Rattle.selection.specs.declared.TimeWindow.{TimeWindow}
 use Rattle.deletions.specs.Answers.{clearedPaper}
 use Rattle.deletions.specs.Deleting.{Swept, clearIn, deleteWindowIn, resetIn, sweep, tally, unswept}
 use Rattle.windows.specs.Inside.{Opens}

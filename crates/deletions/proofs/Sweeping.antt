@@ -7,21 +7,21 @@ use mathlib.Core.Path.{_≡_, _∙_, ap, ap₂, refl, sym}
 use native.Mathlib.Omega.{arith}
 use Rattle.rules.specs.Papers.{Outcome, Paper, after, done, refused, says}
 use Rattle.store.proofs.Laid.{leaves-as, leaves-now, leaves-same, leaves-then}
-use Rattle.store.proofs.Numbers.{not-done}
+use Rattle.lookup.proofs.Numbers.{not-done}
 use Rattle.store.specs.Calls.{deleteIn}
-use Rattle.store.specs.Judge.{Sound as StoreSound}
-use Rattle.store.specs.Pools.{Pool}
+use Rattle.layout.specs.Judge.{Sound as StoreSound}
+use Rattle.slots.specs.Pools.{Pool}
 use Rattle.store.specs.Promise.{Does}
 use Rattle.store.specs.Refusals.{deletedPaper}
-use Rattle.store.specs.View.{Leaves, view}
+use Rattle.slots.specs.View.{Leaves, view}
 use Rattle.store.specs.declared.Deleted.{Deleted}
 use Rattle.store.specs.declared.Deleted.the-variants as D
-use Rattle.store.specs.declared.Setup.{Setup as StoreSetup}
-use Rattle.store.specs.declared.StoreRefusal.{StoreRefusal}
+use Rattle.layout.specs.declared.Setup.{Setup as StoreSetup}
+use Rattle.slots.specs.declared.StoreRefusal.{StoreRefusal}
 use Rattle.store_laws.proofs.Numbers.{delete-numbered}
 use Rattle.store_laws.proofs.StaysSound.{delete-stays}
-use Rattle.table.proofs.Rows.{drop-row}
-use Rattle.table.specs.Entries.{row, unpack}
+use Rattle.rows.proofs.Rows.{drop-row}
+use Rattle.rows.specs.Entries.{row, unpack}
 use Rattle.deletions.specs.Answers.{lastPaper}
 use Rattle.deletions.specs.Deleting.{Swept, sweep, swept, unswept}
 use Rattle.deletions.specs.Inside.{Sweeps, counted, tallied}

@@ -2,7 +2,7 @@
 use mathlib.Core.List.{[], _∷_}
 use Rattle.record.specs.Refusals.{paper}
 use Rattle.rules.specs.Papers.{Paper, no}
-use Rattle.store.specs.Refusals.{paper as storePaper}
+use Rattle.lookup.specs.Refusals.{paper as storePaper}
 use Rattle.deletions.specs.declared.ClearAnswer.{ClearAnswer}
 use Rattle.deletions.specs.declared.ClearAnswer.the-variants as Cl
 use Rattle.deletions.specs.declared.Last.{Last}

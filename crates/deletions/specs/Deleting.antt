@@ -4,9 +4,9 @@ use mathlib.Core.Bool.{false}
 use mathlib.Core.List.{List, [], _∷_}
 use Rattle.rules.specs.Papers.{Outcome, Paper, done, no, refused}
 use Rattle.store.specs.Calls.{deleteIn}
-use Rattle.store.specs.Pools.{Pool}
-use Rattle.table.specs.Entries.{Entry}
-use Rattle.table.specs.Windows.{inWindow, outside}
+use Rattle.slots.specs.Pools.{Pool}
+use Rattle.rows.specs.Entries.{Entry}
+use Rattle.selection.specs.Windows.{inWindow, outside}
 use Rattle.schedule.specs.State.{State, withEntries, withPools}
 use Rattle.windows.specs.Windowing.{windowed}
 use Rattle.windows.specs.declared.Window.{Window}

@@ -7,14 +7,14 @@ use mathlib.Core.Path.{_≡_}
 use Rattle.record.specs.declared.Record.{Record}
 use Rattle.rules.specs.Papers.{Outcome}
 use Rattle.schedule.specs.State.{State}
-use Rattle.store.specs.Pools.{Pool}
-use Rattle.store.specs.View.{Leaves, view}
+use Rattle.slots.specs.Pools.{Pool}
+use Rattle.slots.specs.View.{Leaves, view}
 use Rattle.store.specs.declared.Deleted.{Deleted}
 use Rattle.store.specs.declared.Deleted.the-variants as D
-use Rattle.store.specs.declared.Setup.{Setup as StoreSetup}
-use Rattle.table.specs.Edits.{without}
-use Rattle.table.specs.Entries.{Entry}
-use Rattle.table.specs.declared.Part.{Part}
+use Rattle.layout.specs.declared.Setup.{Setup as StoreSetup}
+use Rattle.table_edit.specs.Edits.{without}
+use Rattle.rows.specs.Entries.{Entry}
+use Rattle.selection.specs.declared.Part.{Part}
 use Rattle.deletions.specs.Answers.{lastPaper}
 use Rattle.deletions.specs.Deleting.{Swept, clearIn, sweep, unswept}
 use Rattle.deletions.specs.declared.Last.the-variants as La

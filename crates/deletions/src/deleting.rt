@@ -4,7 +4,7 @@ use crate::Cleared;
 use crate::sweep::sweep;
 use record::Record;
 use schedule::Setup;
-use table::Part;
+use selection::Part;
 use windows::Opened;
 use windows::Window;
 ghost use Prim.Native.Nat.{_+_, _≤_};
@@ -35,7 +35,7 @@ pub fn delete_by_time_filter(
             answer: ClearAnswer::Refused(e),
         },
         Opened::At(x) => {
-            let part = table::window::rows_in(rows, rec.count, x);
+            let part = selection::window::rows_in(rows, rec.count, x);
             clear(setup, rec, store, lens, rows, part, rec.enabled)
         }
     }
@@ -79,7 +79,7 @@ fn clear(
     let s = setup.store;
     let n = rec.count;
     let t = sweep(s, store, lens, rows, n, part);
-    table::edit::remove(rows, n, part.first, part.number);
+    table_edit::remove(rows, n, part.first, part.number);
     Cleared {
         next: left(rec, part.number, enabled),
         answer: ClearAnswer::Done(t),

@@ -1,7 +1,7 @@
 // The deletions of several entries (document 01, module 5): by window, and `reset`.
 use record::Record;
 use record::ScheduleRefusal;
-use store::StoreRefusal;
+use slots::StoreRefusal;
 
 pub mod deleting;
 mod sweep;

@@ -1,18 +1,18 @@
 // The packets of a range of rows deleted from the store, in schedule order: how many there were, and why the others were missing.
 use crate::Last;
 use crate::Tally;
+use selection::Part;
 use store::Deleted;
-use table::Part;
 ghost use mathlib.Core.Path.{_≡_};
 ghost use Prim.Native.Nat.{_+_, _<_, _≤_};
 ghost use lib.ListN.{drop, take};
-ghost use Rattle.store.specs.Judge.{Sound as StoreSound};
-ghost use Rattle.table.specs.Entries.{unpack};
-ghost use Rattle.table.specs.Order.{Sound as TableSound, mostEntries};
+ghost use Rattle.layout.specs.Judge.{Sound as StoreSound};
+ghost use Rattle.rows.specs.Entries.{unpack};
+ghost use Rattle.rows.specs.Order.{Sound as TableSound, mostEntries};
 ghost use Rattle.deletions.specs.Inside.{Sweeps, counted};
 
 pub fn sweep(
-    setup: store::Setup,
+    setup: layout::Setup,
     store: &mut [u8],
     lens: &mut [u16],
     rows: &[u64],
@@ -34,7 +34,7 @@ pub fn sweep(
     };
     let mut i = part.first;
     while i < end {
-        let info = table::row::tc_info(rows, count, i);
+        let info = rows::tc_info(rows, count, i);
         let d = store::judged::delete(setup, store, lens, info.addr);
         t = one_more(t, d);
         i += 1;

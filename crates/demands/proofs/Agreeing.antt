@@ -10,7 +10,7 @@ use Rattle.scheduler.proofs.OneOutcome.{one-outcome, one-start}
 use Rattle.scheduler.proofs.Releasing.{one-tick}
 use Rattle.scheduler.specs.Laws.{Same}
 use Rattle.scheduler.specs.Steps.{Answer, Request, add, count, delete, deleteById, deleteKeeping, deleteWindow, disable, enable, hasElementAt, insertStored, insertUnwrapped, insertWrapped, lenOfData, modify, read, reset, retrieve, setClock, tick}
-use Rattle.store.specs.Pools.{Pool}
+use Rattle.slots.specs.Pools.{Pool}
 use Rattle.time.specs.declared.Margin.{Margin}
 use Rattle.time.specs.declared.UnixTime.{UnixTime}
 use mathlib.Core.Bool.{Bool}

@@ -11,15 +11,15 @@ use Rattle.scheduler.proofs.Stepping.{add-steps, by-id-steps, clock-steps, coun
 use Rattle.scheduler.specs.Fits.{OfBytes}
 use Rattle.scheduler.specs.Laws.{StepsAs}
 use Rattle.scheduler.specs.Steps.{Answer, Request, add, carried, count, delete, deleteById, deleteKeeping, deleteWindow, disable, enable, hasElementAt, insertStored, insertUnwrapped, insertWrapped, lenOfData, looked, modify, read, reset, retrieve, setClock, step, tick}
-use Rattle.store.proofs.Judging.{judging-fine}
-use Rattle.store.proofs.Lists.{part-length}
-use Rattle.store.proofs.Packets.{packet-there}
-use Rattle.store.specs.Calls.{ifHeld, ifNamed, packetIn}
-use Rattle.store.specs.Judge.{Sound as StoreSound}
-use Rattle.store.specs.Pools.{Found, find, held, noPool, noSlot, vacant}
-use Rattle.store.specs.View.{part, put, view}
-use Rattle.store.specs.Promise.{startOf}
-use Rattle.store.specs.declared.Setup.{Setup as StoreSetup}
+use Rattle.lookup.proofs.Judging.{judging-fine}
+use Rattle.slots.proofs.Lists.{part-length}
+use Rattle.lookup.proofs.Packets.{packet-there}
+use Rattle.lookup.specs.Calls.{ifHeld, ifNamed, packetIn}
+use Rattle.layout.specs.Judge.{Sound as StoreSound}
+use Rattle.slots.specs.Pools.{Found, find, held, noPool, noSlot, vacant}
+use Rattle.slots.specs.View.{part, put, view}
+use Rattle.lookup.specs.Promise.{startOf}
+use Rattle.layout.specs.declared.Setup.{Setup as StoreSetup}
 use lib.ListN.{length, take}
 use lib.Seq.{length-take-le}
 use mathlib.Core.List.{List, [], _∷_}

@@ -1,9 +1,12 @@
 -- Each call has a result that its promise allows, whatever is lent.
-use Rattle.deletions.specs.Deleting.{deleteByIdIn, deleteKeepingIn, deleteWindowIn, resetIn}
-use Rattle.deletions.specs.Windowing.{retrieveIn}
+use Rattle.deletions.specs.Deleting.{deleteWindowIn, resetIn}
+use Rattle.by_id.specs.ById.{deleteByIdIn, deleteKeepingIn}
+use Rattle.windows.specs.Windowing.{retrieveIn}
 use Rattle.demands.specs.Calling.{Calls, Changes, Lent, Looks, Marks, Promised, StoreChanges, StoreLooks, freshStart, request}
 use Rattle.demands.specs.Demands.{Result, SomeOutcome, Whole}
-use Rattle.insertions.specs.Inserting.{insertStoredIn, insertUnwrappedIn, insertWrappedIn}
+use Rattle.insertions.specs.Inserting.{insertUnwrappedIn}
+use Rattle.gate.specs.Entering.{insertStoredIn}
+use Rattle.wrapped.specs.Wrapped.{insertWrappedIn}
 use Rattle.record.specs.Record.{clockIn, markIn}
 use Rattle.record.specs.declared.Record.{Record}
 use Rattle.rules.specs.Papers.{Outcome, Paper, after, says}
@@ -13,10 +16,11 @@ use Rattle.schedule.specs.Starting.{startIn}
 use Rattle.schedule.specs.State.{State, recordOf}
 use Rattle.schedule.specs.declared.Setup.{Setup}
 use Rattle.scheduler.specs.Steps.{Answer, Request, add, count, delete, deleteById, deleteKeeping, deleteWindow, disable, enable, hasElementAt, insertStored, insertUnwrapped, insertWrapped, lenOfData, modify, read, reset, retrieve, setClock, tick}
-use Rattle.store.specs.Calls.{addIn, deleteIn, hasIn, judging as storeJudging, lenIn, packetIn, readIn}
-use Rattle.store.specs.Pools.{Pool}
-use Rattle.store.specs.View.{lensWith, storeWith}
-use Rattle.table.specs.Entries.{relaid}
+use Rattle.store.specs.Calls.{addIn, deleteIn}
+use Rattle.lookup.specs.Calls.{hasIn, judging as storeJudging, lenIn, packetIn, readIn}
+use Rattle.slots.specs.Pools.{Pool}
+use Rattle.slots.specs.View.{lensWith, storeWith}
+use Rattle.rows.specs.Entries.{relaid}
 use Rattle.tick.specs.Promise.{left}
 use Rattle.tick.specs.Tick.{Logged, tickIn}
 use Rattle.time.specs.declared.Margin.{Margin}

@@ -15,11 +15,11 @@ use Rattle.scheduler.proofs.RefusalKeeps.{call-keeps, start-keeps}
 use Rattle.scheduler.proofs.Releasing.{tick-keeps}
 use Rattle.scheduler.specs.Laws.{AnsweredOrRefused, Same}
 use Rattle.scheduler.specs.Steps.{Answer, Request, add, bufferOf, count, delete, deleteById, deleteKeeping, deleteWindow, disable, enable, hasElementAt, insertStored, insertUnwrapped, insertWrapped, lenOfData, modify, read, reset, retrieve, setClock, tick}
-use Rattle.store.specs.Calls.{judging as storeJudging, packetIn, readIn}
-use Rattle.store.specs.Judge.{judged}
-use Rattle.store.specs.Pools.{Pool}
-use Rattle.store.specs.Promise.{startOf}
-use Rattle.store.specs.View.{lensWith, put, storeWith, view}
+use Rattle.lookup.specs.Calls.{judging as storeJudging, packetIn, readIn}
+use Rattle.layout.specs.Judge.{judged}
+use Rattle.slots.specs.Pools.{Pool}
+use Rattle.lookup.specs.Promise.{startOf}
+use Rattle.slots.specs.View.{lensWith, put, storeWith, view}
 use Rattle.tick.specs.Tick.{Logged}
 use Rattle.time.specs.Time.{inRange, marginInRange}
 use Rattle.time.specs.declared.Margin.{Margin}

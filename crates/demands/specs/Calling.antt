@@ -1,8 +1,11 @@
 -- What a call may do to what is lent, by its own promise; and calls one after another.
 use Prim.Native.Nat.{ℕ}
-use Rattle.deletions.specs.Deleting.{deleteByIdIn, deleteKeepingIn, deleteWindowIn, resetIn}
-use Rattle.deletions.specs.Windowing.{retrieveIn}
-use Rattle.insertions.specs.Inserting.{insertStoredIn, insertUnwrappedIn, insertWrappedIn}
+use Rattle.deletions.specs.Deleting.{deleteWindowIn, resetIn}
+use Rattle.by_id.specs.ById.{deleteByIdIn, deleteKeepingIn}
+use Rattle.windows.specs.Windowing.{retrieveIn}
+use Rattle.insertions.specs.Inserting.{insertUnwrappedIn}
+use Rattle.gate.specs.Entering.{insertStoredIn}
+use Rattle.wrapped.specs.Wrapped.{insertWrappedIn}
 use Rattle.record.specs.Record.{clockIn, markIn}
 use Rattle.record.specs.declared.Record.{Record}
 use Rattle.rules.specs.Papers.{Outcome, after, says}
@@ -13,10 +16,12 @@ use Rattle.schedule.specs.Starting.{Starts, startIn}
 use Rattle.schedule.specs.State.{State}
 use Rattle.schedule.specs.declared.Setup.{Setup}
 use Rattle.scheduler.specs.Steps.{Answer, Request, add, bufferOf, count, delete, deleteById, deleteKeeping, deleteWindow, disable, enable, hasElementAt, insertStored, insertUnwrapped, insertWrapped, lenOfData, modify, read, reset, retrieve, setClock, tick}
-use Rattle.store.specs.Calls.{addIn, deleteIn, hasIn, judging as storeJudging, lenIn, packetIn, readIn}
-use Rattle.store.specs.Pools.{Pool}
-use Rattle.store.specs.Promise.{Reads, Writes as StoreWrites, startOf}
-use Rattle.store.specs.View.{put}
+use Rattle.store.specs.Calls.{addIn, deleteIn}
+use Rattle.lookup.specs.Calls.{hasIn, judging as storeJudging, lenIn, packetIn, readIn}
+use Rattle.slots.specs.Pools.{Pool}
+use Rattle.store.specs.Promise.{Writes as StoreWrites}
+use Rattle.lookup.specs.Promise.{Reads, startOf}
+use Rattle.slots.specs.View.{put}
 use Rattle.tick.specs.Promise.{Ticks}
 use Rattle.tick.specs.Tick.{tickIn}
 use Rattle.time.specs.declared.Margin.{Margin}

@@ -10,7 +10,7 @@ use Rattle.schedule.specs.declared.Setup.{Setup}
 use Rattle.scheduler.specs.Fits.{AllOfBytes}
 use Rattle.scheduler.specs.Laws.{AnsweredOrRefused}
 use Rattle.scheduler.specs.Steps.{Answer, Request, modify, run}
-use Rattle.store.specs.Calls.{judging, packetIn}
+use Rattle.lookup.specs.Calls.{judging, packetIn}
 use Rattle.time.specs.declared.Margin.{Margin}
 use Rattle.time.specs.declared.UnixTime.{UnixTime}
 use lib.ListN.{length}

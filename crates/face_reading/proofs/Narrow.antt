@@ -5,10 +5,10 @@ use Rattle.face_reading.specs.Inside.{ReadsStore, fine, narrow}
 use Rattle.face_reading.specs.Reading.{column, storeSetup, switched, wellCounted, word}
 use Rattle.rules.proofs.All.{all-at, all-each, all-end, all-of, all-stop, and-left, and-right}
 use Rattle.rules.proofs.First.{from-more}
-use Rattle.store.specs.Judge.{poolOk, poolOkAt, setupOk}
-use Rattle.store.specs.Layout.{sizeAt, slotsAt}
-use Rattle.store.specs.Limits.{maxSlotSize, maxSlots, maxSubpools}
-use Rattle.store.specs.View.{each}
+use Rattle.layout.specs.Judge.{poolOk, poolOkAt, setupOk}
+use Rattle.layout.specs.Layout.{sizeAt, slotsAt}
+use Rattle.layout.specs.Limits.{maxSlotSize, maxSlots, maxSubpools}
+use Rattle.slots.specs.View.{each}
 use borrow.Author.Tests.{eq-eqb, eqb-false, eqb-true, le-ltb, leb-false, leb-true, lt-ltb, ltb-true}
 use lib.Dec.{eqb, leb, ltb}
 use lib.ListN.{getD, length}
@@ -16,7 +16,7 @@ use mathlib.Core.Bool.{Bool, false, true}
 use mathlib.Core.List.{List, [], _∷_}
 use mathlib.Core.Path.{_∙_, _≡_, ap, refl}
 use native.Mathlib.Omega.{arith}
-use Rattle.store.specs.declared.Setup.{Setup}
+use Rattle.layout.specs.declared.Setup.{Setup}
 
 -- each f, at a place
 pub each-at : (f : ℕ → ℕ) (n i k : ℕ) → k < n → getD (each f i n) k 0 ≡ f (i + k)

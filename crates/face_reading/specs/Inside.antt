@@ -3,15 +3,15 @@ use Prim.Native.Nat.{_*_, _+_, ℕ}
 use Rattle.face_reading.specs.Reading.{storeSetup, wellCounted, word}
 use Rattle.record.specs.Record.{timesInRange}
 use Rattle.rules.specs.Tests.{allBelow}
-use Rattle.store.specs.Limits.{maxSubpools}
+use Rattle.layout.specs.Limits.{maxSubpools}
 use lib.Dec.{ltb}
 use mathlib.Core.Bool.{Bool, _&&_, cond, false, true}
 use mathlib.Core.List.{List}
 use mathlib.Core.Path.{_≡_}
 use Rattle.record.specs.declared.Record.{Record}
 use Rattle.schedule.specs.declared.Setup.{Setup}
-use Rattle.store.specs.Judge.{setupOk as storeSetupOk}
-use Rattle.store.specs.declared.Setup.{Setup as StoreSetup}
+use Rattle.layout.specs.Judge.{setupOk as storeSetupOk}
+use Rattle.layout.specs.declared.Setup.{Setup as StoreSetup}
 
 -- the words of the subpools fit the fields that hold them
 unfoldable pub narrow : List ℕ → Bool

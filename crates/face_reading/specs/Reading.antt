@@ -1,17 +1,17 @@
 -- The words of setup and record, and the ends of a window, as include/silotwist.h lays them out. Every word is taken whole, never cut to a width.
 use Prim.Native.Nat.{_*_, _+_, _-_, ℕ}
-use Rattle.store.specs.Limits.{maxSubpools}
-use Rattle.store.specs.View.{each}
+use Rattle.layout.specs.Limits.{maxSubpools}
+use Rattle.slots.specs.View.{each}
 use lib.Dec.{eqb, ltb}
 use lib.IntN.{negsuc, pos, ℤ}
 use lib.ListN.{getD, length}
 use mathlib.Core.Bool.{Bool, false, not, true}
 use mathlib.Core.List.{List}
-use Rattle.deletions.specs.declared.Window.{Window}
-use Rattle.deletions.specs.declared.Window.the-variants.{All, From, FromTo, To}
+use Rattle.windows.specs.declared.Window.{Window}
+use Rattle.windows.specs.declared.Window.the-variants.{All, From, FromTo, To}
 use Rattle.record.specs.declared.Record.{Record}
 use Rattle.schedule.specs.declared.Setup.{Setup}
-use Rattle.store.specs.declared.Setup.{Setup as StoreSetup}
+use Rattle.layout.specs.declared.Setup.{Setup as StoreSetup}
 use Rattle.time.specs.declared.UnixTime.{UnixTime}
 
 -- word i

@@ -1,13 +1,13 @@
 // The words that the C face reads: setup, record, a time and a window.
-use deletions::Window;
 use record::Record;
 use schedule::Setup;
 use time::Margin;
 use time::UnixTime;
+use windows::Window;
 ghost use mathlib.Core.Path.{_≡_};
 ghost use mathlib.Core.Bool.{false, true};
 ghost use Prim.Native.Nat.{_<_};
-ghost use Rattle.store.specs.Judge.{setupOk as storeSetupOk};
+ghost use Rattle.layout.specs.Judge.{setupOk as storeSetupOk};
 ghost use Rattle.face_reading.specs.Inside.{ReadsSetup, ReadsStore, Stands, clipped, narrow};
 ghost use Rattle.face_reading.specs.Reading.{column, recordFrom, signed as signedWord, switched, windowFrom, word as wordAt};
 
@@ -91,10 +91,10 @@ pub fn is_on(w: u64) -> bool
 }
 
 // A setup that refusal 1 is due for.
-fn bad_setup() -> store::Setup
+fn bad_setup() -> layout::Setup
     ensures { λ r. ⌜ storeSetupOk r ≡ false ⌝ }
 {
-    store::Setup {
+    layout::Setup {
         pools: 0,
         sizes: [0, 0, 0, 0, 0, 0, 0, 0],
         slots: [0, 0, 0, 0, 0, 0, 0, 0],
@@ -103,7 +103,7 @@ fn bad_setup() -> store::Setup
 }
 
 // The store's setup. A word that does not fit its field is no size of document 01: it is never cut.
-pub fn store_setup(words: &[u64]) -> store::Setup
+pub fn store_setup(words: &[u64]) -> layout::Setup
     ensures { λ r. ⌜ ReadsStore (now (words .entry)) r ⌝ }
 {
     let pools = word(words, 0);
@@ -121,7 +121,7 @@ pub fn store_setup(words: &[u64]) -> store::Setup
     let slots = slots(words);
     let sizes = sizes(words);
     let spill = is_on(word(words, 1));
-    store::Setup {
+    layout::Setup {
         pools: n,
         sizes: sizes,
         slots: slots,

@@ -5,8 +5,8 @@ use Rattle.face_reading.proofs.Narrow.{each-at}
 use Rattle.face_reading.specs.Reading.{word}
 use Rattle.face_words.specs.Inside.{eight}
 use Rattle.face_words.specs.Padding.{padded}
-use Rattle.store.proofs.Lists.{front-more}
-use Rattle.store.specs.View.{each}
+use Rattle.slots.proofs.Lists.{front-more}
+use Rattle.slots.specs.View.{each}
 use lib.ListN.{drop, getD, length, length-append, length-replicate, length-take, replicate, set, take}
 use mathlib.Core.List.{List, [], _++_, _∷_}
 use mathlib.Core.Path.{_∙_, _≡_, ap, refl}

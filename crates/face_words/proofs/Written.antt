@@ -2,7 +2,7 @@
 -- Assumes nothing.
 use Prim.Native.Nat.{_≤_, ℕ}
 use Rattle.face_words.specs.Inside.{writtenIf}
-use Rattle.store.specs.Refusals.{bit}
+use Rattle.lookup.specs.Refusals.{bit}
 use borrow.Author.Tests.{eq-eqb, ne-eqb}
 use lib.ListN.{drop, getD, length, set}
 use mathlib.Core.Bool.{Bool, false, true}

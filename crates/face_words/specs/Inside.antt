@@ -3,7 +3,7 @@ use Prim.Native.Nat.{ℕ}
 use Rattle.face_reading.specs.Reading.{word}
 use Rattle.face_words.specs.Padding.{padded}
 use Rattle.rules.specs.Papers.{Paper}
-use Rattle.store.specs.View.{each}
+use Rattle.slots.specs.View.{each}
 use lib.Dec.{eqb}
 use mathlib.Core.Bool.{cond}
 use mathlib.Core.List.{List}

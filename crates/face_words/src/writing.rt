@@ -9,7 +9,7 @@ ghost use mathlib.Core.List.{_∷_};
 ghost use Prim.Native.Nat.{_≤_};
 ghost use lib.ListN.{drop, length, set};
 ghost use Rattle.record.specs.Refusals.{marginWords, timeWords, wordOf};
-ghost use Rattle.store.specs.Refusals.{bit};
+ghost use Rattle.lookup.specs.Refusals.{bit};
 ghost use Rattle.face_words.specs.Inside.{writtenIf};
 
 // The count.

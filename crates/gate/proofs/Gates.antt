@@ -11,8 +11,8 @@ use Rattle.record.specs.declared.Record.{Record}
 use Rattle.record.specs.declared.ScheduleRefusal.the-variants.{ReleaseTimeInTimeMargin, ScheduleFull}
 use Rattle.rules.specs.Papers.{done, refused}
 use Rattle.rules.specs.Tests.{unless}
-use Rattle.table.specs.Edits.{insertSorted}
-use Rattle.table.specs.Entries.{entryOf}
+use Rattle.table_edit.specs.Edits.{insertSorted}
+use Rattle.rows.specs.Entries.{entryOf}
 use Rattle.time.specs.Time.{inTimeMargin, momentOf}
 use Rattle.time.specs.declared.UnixTime.{UnixTime}
 use Rattle.gate.specs.Entering.{enter}

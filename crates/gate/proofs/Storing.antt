@@ -14,11 +14,11 @@ use Rattle.record.specs.declared.ScheduleRefusal.the-variants.{BadTime}
 use Rattle.rules.specs.Papers.{done, no, refused}
 use Rattle.rules.specs.Tests.{unless}
 use Rattle.store.proofs.Laid.{leaves-same}
-use Rattle.table.proofs.Rows.{length-unpack}
-use Rattle.table.proofs.Stays.{length-insertSorted}
-use Rattle.table.specs.Edits.{afterInsert, insertSorted}
-use Rattle.table.specs.Entries.{entryOf, unpack}
-use Rattle.table.specs.Order.{Spare}
+use Rattle.rows.proofs.Rows.{length-unpack}
+use Rattle.table_edit.proofs.Stays.{length-insertSorted}
+use Rattle.table_edit.specs.Edits.{afterInsert, insertSorted}
+use Rattle.rows.specs.Entries.{entryOf, unpack}
+use Rattle.table_edit.specs.Edits.{Spare}
 use Rattle.time.specs.Time.{inRange, inTimeMargin, momentOf}
 use Rattle.time.specs.declared.UnixTime.{UnixTime}
 use Rattle.gate.specs.Entering.{enter, insertStoredIn, timed}

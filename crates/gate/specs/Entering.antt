@@ -7,8 +7,8 @@ use mathlib.Core.List.{List, []}
 use Rattle.record.specs.Refusals.{marginWords, timeWords}
 use Rattle.rules.specs.Papers.{Outcome, done, no, refused}
 use Rattle.rules.specs.Tests.{unless}
-use Rattle.table.specs.Edits.{insertSorted}
-use Rattle.table.specs.Entries.{entryOf}
+use Rattle.table_edit.specs.Edits.{insertSorted}
+use Rattle.rows.specs.Entries.{entryOf}
 use Rattle.time.specs.Time.{inRange, inTimeMargin, momentOf}
 use Rattle.time.specs.declared.UnixTime.{UnixTime}
 use Rattle.schedule.specs.State.{State, withEntries}

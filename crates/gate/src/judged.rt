@@ -43,7 +43,7 @@ pub fn insert_unwrapped_and_stored_tc(
         },
         Verdict::Fine => {
             let n = rec.count;
-            table::edit::insert(rows, n, release.to_moment(), request_id, addr);
+            table_edit::insert(rows, n, release.to_moment(), request_id, addr);
             Changed {
                 next: with_count(rec, n + 1),
                 answer: Done::Ok,

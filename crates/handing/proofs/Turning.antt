@@ -5,10 +5,10 @@ use Rattle.log.proofs.Sizes.{size-records}
 use Rattle.log.proofs.Whole.{ended, left, turn}
 use Rattle.log.specs.Log.{LogRecord, mostLogBytes, offsets, records, total}
 use Rattle.store.proofs.Laid.{leaves-as, leaves-now, leaves-same, leaves-then}
-use Rattle.store.specs.Pools.{Pool, find}
-use Rattle.store.specs.View.{Leaves, view}
-use Rattle.table.proofs.Rows.{drop-row, length-unpack}
-use Rattle.table.specs.Entries.{Entry, row, unpack}
+use Rattle.slots.specs.Pools.{Pool, find}
+use Rattle.slots.specs.View.{Leaves, view}
+use Rattle.rows.proofs.Rows.{drop-row, length-unpack}
+use Rattle.rows.specs.Entries.{Entry, row, unpack}
 use Rattle.turn.proofs.OneTurn.{leave-sound}
 use Rattle.turn.specs.Turned.{Turned}
 use Rattle.turn.specs.Turns.{always, handed, leave, packetOf}
@@ -20,8 +20,8 @@ use mathlib.Core.Bool.{Bool}
 use mathlib.Core.List.{List, [], _∷_}
 use mathlib.Core.Path.{_∙_, _≡_, ap, refl, sym}
 use native.Mathlib.Omega.{arith}
-use Rattle.store.specs.Judge.{Sound as StoreSound}
-use Rattle.store.specs.declared.Setup.{Setup}
+use Rattle.layout.specs.Judge.{Sound as StoreSound}
+use Rattle.layout.specs.declared.Setup.{Setup}
 
 module _ (after : List Pool → ℕ → List Pool) (on : Entry → Bool) where
   turns-more : (e : Entry) (es : List Entry) (ps : List Pool)

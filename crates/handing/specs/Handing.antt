@@ -1,16 +1,16 @@
 -- The turns of entries that are all handed out: their records, the store after them, and what the code promises of both.
 use Prim.Native.Nat.{_≤_, ℕ}
 use Rattle.log.specs.Log.{LogRecord, logBytes, mostLogBytes, total}
-use Rattle.store.specs.Pools.{Pool, find}
-use Rattle.store.specs.View.{Leaves, view}
-use Rattle.table.specs.Entries.{Entry}
+use Rattle.slots.specs.Pools.{Pool, find}
+use Rattle.slots.specs.View.{Leaves, view}
+use Rattle.rows.specs.Entries.{Entry}
 use Rattle.turn.specs.Turns.{always, handed, leave}
 use lib.ListN.{length}
 use lib.Seq.{sets}
 use mathlib.Core.Bool.{Bool}
 use mathlib.Core.List.{List, [], _∷_}
 use mathlib.Core.Path.{_≡_}
-use Rattle.store.specs.declared.Setup.{Setup}
+use Rattle.layout.specs.declared.Setup.{Setup}
 
 -- the records of entries that are all handed out, and the store after them
 unfoldable pub turns : (List Pool → ℕ → List Pool) → (Entry → Bool) → List Entry → List Pool → List LogRecord

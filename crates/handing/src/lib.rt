@@ -1,13 +1,13 @@
 // The turns of entries that are all handed out: a record each, and in delete mode the packet gone at its turn. For a caller that has judged.
-ghost use Rattle.store.specs.Judge.{Sound as StoreSound};
-ghost use Rattle.store.specs.View.{view};
-ghost use Rattle.table.specs.Entries.{unpack};
-ghost use Rattle.table.specs.Order.{Held};
+ghost use Rattle.layout.specs.Judge.{Sound as StoreSound};
+ghost use Rattle.slots.specs.View.{view};
+ghost use Rattle.rows.specs.Entries.{unpack};
+ghost use Rattle.rows.specs.Order.{Held};
 ghost use Rattle.handing.specs.Handing.{Roomy, Turns};
 
 // The turns of the first m rows, into the log.
 pub fn hand_out(
-    setup: store::Setup,
+    setup: layout::Setup,
     store: &mut [u8],
     lens: &mut [u16],
     rows: &[u64],
@@ -25,7 +25,7 @@ pub fn hand_out(
     let mut at = 8 + 4 * m;
     let mut i: usize = 0;
     while i < m {
-        let info = table::row::tc_info(rows, m, i);
+        let info = rows::tc_info(rows, m, i);
         log::put_number(log, 8 + 4 * i, at);
         let n = turn::hand_one(
             setup,

@@ -16,7 +16,7 @@ use Rattle.rules.specs.Papers.{Paper, no}
 use Rattle.rules.specs.Tests.{unless}
 use Rattle.store.specs.Calls.{addIn}
 use Rattle.time.specs.Time.{inRange}
-use Rattle.store.specs.View.{view}
+use Rattle.slots.specs.View.{view}
 use Rattle.time.specs.declared.UnixTime.{UnixTime}
 use Rattle.gate.specs.Entering.{timed}
 use Rattle.insertions.specs.Inserting.{activity, entered, insertTc, insertUnwrappedIn, nested}

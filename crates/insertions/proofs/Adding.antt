@@ -15,19 +15,20 @@ use Rattle.record.specs.declared.ScheduleRefusal.{ScheduleRefusal}
 use Rattle.record.specs.declared.ScheduleRefusal.the-variants.{Store}
 use Rattle.rules.specs.Papers.{Outcome, Paper, after, done, no, refused, says}
 use Rattle.rules.specs.Tests.{unless}
-use Rattle.store.proofs.Numbers.{not-done}
+use Rattle.lookup.proofs.Numbers.{not-done}
 use Rattle.store.specs.Calls.{addIn}
-use Rattle.store.specs.Pools.{Pool}
-use Rattle.store.specs.Refusals.{addedPaper, paper as storePaper}
-use Rattle.store.specs.View.{Leaves, view}
+use Rattle.slots.specs.Pools.{Pool}
+use Rattle.store.specs.Refusals.{addedPaper}
+use Rattle.lookup.specs.Refusals.{paper as storePaper}
+use Rattle.slots.specs.View.{Leaves, view}
 use Rattle.store.specs.declared.Added.{Added}
 use Rattle.store.specs.declared.Added.the-variants as A
-use Rattle.store.specs.declared.StoreRefusal.{StoreRefusal}
+use Rattle.slots.specs.declared.StoreRefusal.{StoreRefusal}
 use Rattle.store_laws.proofs.Numbers.{add-numbered}
-use Rattle.table.proofs.Rows.{length-unpack}
-use Rattle.table.proofs.Stays.{length-insertSorted}
-use Rattle.table.specs.Edits.{afterInsert, insertSorted}
-use Rattle.table.specs.Entries.{entryOf, unpack}
+use Rattle.rows.proofs.Rows.{length-unpack}
+use Rattle.table_edit.proofs.Stays.{length-insertSorted}
+use Rattle.table_edit.specs.Edits.{afterInsert, insertSorted}
+use Rattle.rows.specs.Entries.{entryOf, unpack}
 use Rattle.time.specs.Time.{inTimeMargin, momentOf}
 use Rattle.time.specs.declared.UnixTime.{UnixTime}
 use Rattle.insertions.specs.Answers.{insertedPaper}

@@ -12,7 +12,7 @@ use Rattle.packet.specs.declared.Reading.the-variants.{Packet, Unreadable}
 use Rattle.rules.specs.Papers.{Outcome, done, no, refused}
 use Rattle.rules.specs.Tests.{unless}
 use Rattle.store.specs.Calls.{addIn}
-use Rattle.store.specs.Pools.{Pool}
+use Rattle.slots.specs.Pools.{Pool}
 use Rattle.time.specs.declared.UnixTime.{UnixTime}
 use Rattle.schedule.specs.State.{State, withPools}
 use Rattle.schedule.specs.declared.Setup.{Setup}

@@ -4,7 +4,7 @@ use Rattle.record.specs.Refusals.{paper}
 use Rattle.record.specs.declared.ScheduleRefusal.{ScheduleRefusal}
 use Rattle.record.specs.declared.ScheduleRefusal.the-variants.{Store}
 use Rattle.rules.specs.Papers.{Outcome, Paper, done, refused}
-use Rattle.store.specs.Pools.{Pool}
+use Rattle.slots.specs.Pools.{Pool}
 use Rattle.store.specs.declared.Added.{Added}
 use Rattle.store.specs.declared.Added.the-variants as A
 

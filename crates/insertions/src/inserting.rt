@@ -5,19 +5,19 @@ use packet::Header;
 use packet::Reading;
 use record::Record;
 use record::ScheduleRefusal;
+use rows::TcInfo;
 use schedule::Setup;
 use schedule::Verdict;
 use schedule::with_count;
 use store::Added;
-use table::TcInfo;
 use time::UnixTime;
 ghost use mathlib.Core.Path.{_≡_};
 ghost use mathlib.Core.Bool.{false};
 ghost use Prim.Native.Nat.{_<_};
 ghost use Rattle.packet.specs.declared.Reading.the-variants.{Packet};
 ghost use Rattle.store.specs.Calls.{addIn};
-ghost use Rattle.store.specs.Judge.{Sound as StoreSound};
-ghost use Rattle.store.specs.View.{view};
+ghost use Rattle.layout.specs.Judge.{Sound as StoreSound};
+ghost use Rattle.slots.specs.View.{view};
 ghost use Rattle.time.specs.Time.{InRange, inTimeMargin};
 ghost use Rattle.insertions.specs.Answers.{insertedPaper};
 ghost use Rattle.insertions.specs.Inserting.{activity, entered, insertTc, insertUnwrappedIn, nested as nestedOf};
@@ -148,7 +148,7 @@ fn store_and_enter(
         Added::Refused(x) => refuse(rec, ScheduleRefusal::Store(x)),
         Added::At(addr) => {
             let n = rec.count;
-            table::edit::insert(rows, n, release.to_moment(), id, addr);
+            table_edit::insert(rows, n, release.to_moment(), id, addr);
             Inserted {
                 next: with_count(rec, n + 1),
                 answer: InsertAnswer::Inserted(TcInfo {

@@ -1,7 +1,7 @@
 // The insertions by bytes (document 01, module 5): a command of a release time goes to the store, and its entry to the schedule.
 use record::Record;
 use record::ScheduleRefusal;
-use table::TcInfo;
+use rows::TcInfo;
 
 pub mod inserting;
 

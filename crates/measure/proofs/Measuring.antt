@@ -6,13 +6,13 @@ use Rattle.measure.proofs.Standing.{Stands, stands-first, stands-next}
 use Rattle.measure.specs.Fitting.{fitting}
 use Rattle.measure.specs.Marks.{Marked, marking, standing}
 use Rattle.rules.specs.Tests.{unless}
-use Rattle.store.proofs.Bounds.{bounds}
-use Rattle.store.specs.Judge.{Sound}
-use Rattle.store.specs.Layout.{allRows, rowOf}
-use Rattle.store.specs.Pools.{Pool, find}
-use Rattle.store.specs.View.{view}
-use Rattle.table.proofs.Rows.{drop-row, length-unpack}
-use Rattle.table.specs.Entries.{Entry, row, unpack}
+use Rattle.layout.proofs.Bounds.{bounds}
+use Rattle.layout.specs.Judge.{Sound}
+use Rattle.layout.specs.Layout.{allRows, rowOf}
+use Rattle.slots.specs.Pools.{Pool, find}
+use Rattle.slots.specs.View.{view}
+use Rattle.rows.proofs.Rows.{drop-row, length-unpack}
+use Rattle.rows.specs.Entries.{Entry, row, unpack}
 use Rattle.turn.specs.Turns.{leave, need}
 use borrow.Author.Tests.{le-leb, lt-leb}
 use lib.ListN.{drop, drop-of-length-le, length}
@@ -20,7 +20,7 @@ use mathlib.Core.Bool.{Bool}
 use mathlib.Core.List.{List, [], _∷_}
 use mathlib.Core.Path.{_∙_, _≡_, ap, ap₂, refl}
 use native.Mathlib.Omega.{arith}
-use Rattle.store.specs.declared.Setup.{Setup}
+use Rattle.layout.specs.declared.Setup.{Setup}
 
 module _ (after : List Pool → ℕ → List Pool) (used cap : ℕ) where
   fit-end : (ps : List Pool) → fitting after used cap [] ps ≡ 0

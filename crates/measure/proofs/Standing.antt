@@ -4,11 +4,12 @@ use Prim.Native.Nat.{_≤_, ℕ}
 use Rattle.measure.proofs.Marking.{eq-or-not, marking-keep, standing-beyond, standing-gone, standing-marked, standing-other, standing-there}
 use Rattle.measure.specs.Marks.{marking, standing}
 use Rattle.store.proofs.Rows.{RowSays, SameSlot, row-says, row-slot, slot-row}
-use Rattle.store.specs.Address.{poolOf, slotOf}
-use Rattle.store.specs.Judge.{Sound}
-use Rattle.store.specs.Layout.{allRows, rowOf}
-use Rattle.store.specs.Pools.{Found, Pool, edit, find, held, noPool, noSlot, vacant, wipe}
-use Rattle.store.specs.View.{view}
+use Rattle.address.specs.Address.{poolOf, slotOf}
+use Rattle.layout.specs.Judge.{Sound}
+use Rattle.layout.specs.Layout.{allRows, rowOf}
+use Rattle.slots.specs.Pools.{Found, Pool, find, held, noPool, noSlot, vacant}
+use Rattle.store.specs.Edits.{edit, wipe}
+use Rattle.slots.specs.View.{view}
 use Rattle.store_laws.proofs.Wiped.{find-else, find-wiped}
 use Rattle.turn.proofs.OneTurn.{packet-missing}
 use Rattle.turn.specs.Turns.{leave, packetOf}
@@ -19,7 +20,7 @@ use mathlib.Core.List.{List, []}
 use mathlib.Core.Logic.{_⊎_, inl, inr, ⊎-elim}
 use mathlib.Core.Path.{_∙_, _≡_, ap, refl, sym}
 use native.Mathlib.Omega.{arith}
-use Rattle.store.specs.declared.Setup.{Setup}
+use Rattle.layout.specs.declared.Setup.{Setup}
 
 -- subpools in which each address finds as many packet bytes as its row still stands for
 pub record Stands (su : Setup) (le : List ℕ) (ps : List Pool) : Type 0 where

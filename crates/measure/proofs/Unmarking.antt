@@ -5,9 +5,9 @@ use Rattle.measure.proofs.Marking.{eq-or-not, lt-or-le}
 use Rattle.measure.specs.Marks.{Marked, Unmarked, added, bare}
 use Rattle.rules.specs.Tests.{allOf, unless}
 use Rattle.store.proofs.Rows.{row-plain}
-use Rattle.store.specs.Judge.{Sound}
-use Rattle.store.specs.Layout.{allRows}
-use Rattle.store.specs.Limits.{maxSlotSize, storeFree}
+use Rattle.layout.specs.Judge.{Sound}
+use Rattle.layout.specs.Layout.{allRows}
+use Rattle.layout.specs.Limits.{maxSlotSize, storeFree}
 use borrow.Author.Tests.{le-leb, lt-leb, lt-ltb}
 use lib.ListN.{getD, length, length-set, set}
 use lib.Seq.{ext-getD, getD-set-other, getD-set-same}
@@ -17,7 +17,7 @@ use mathlib.Core.Logic.{_⊎_, inl, inr, ⊎-elim}
 use mathlib.Core.Path.{_∙_, _≡_, refl, sym}
 use native.Mathlib.Nat.{eq-or-lt-of-le, not-suc-le-zero}
 use native.Mathlib.Omega.{arith}
-use Rattle.store.specs.declared.Setup.{Setup}
+use Rattle.layout.specs.declared.Setup.{Setup}
 
 pub bare-low : (w : ℕ) → w < added → w ≡ bare w
 unfolding bare allOf unless

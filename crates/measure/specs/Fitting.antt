@@ -1,8 +1,8 @@
 -- How many entries fit into the log.
 use Prim.Native.Nat.{_+_, suc, ℕ}
 use Rattle.rules.specs.Tests.{unless}
-use Rattle.store.specs.Pools.{Pool, find}
-use Rattle.table.specs.Entries.{Entry}
+use Rattle.slots.specs.Pools.{Pool, find}
+use Rattle.rows.specs.Entries.{Entry}
 use Rattle.turn.specs.Turns.{need}
 use lib.Dec.{leb}
 use mathlib.Core.List.{List, [], _∷_}

@@ -1,7 +1,7 @@
 -- A reader need not believe this file: only contracts of private functions cite it. The marks that counting leaves in the length table.
 use Prim.Native.Nat.{_+_, _-_, _<_, _≤_, ℕ}
 use Rattle.rules.specs.Tests.{allOf, unless}
-use Rattle.store.specs.Limits.{storeFree}
+use Rattle.layout.specs.Limits.{storeFree}
 use lib.Dec.{leb, ltb}
 use lib.ListN.{getD, length, set}
 use mathlib.Core.Bool.{Bool, false}

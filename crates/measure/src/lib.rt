@@ -4,15 +4,15 @@ ghost use mathlib.Core.Path.{_≡_};
 ghost use Prim.Native.Nat.{_<_, _≤_};
 ghost use lib.ListN.{length};
 ghost use Rattle.log.specs.Log.{mostLogBytes};
-ghost use Rattle.store.specs.Judge.{Sound as StoreSound};
-ghost use Rattle.store.specs.Layout.{allRows};
-ghost use Rattle.store.specs.View.{view};
-ghost use Rattle.table.specs.Entries.{unpack};
-ghost use Rattle.table.specs.Order.{Held};
+ghost use Rattle.layout.specs.Judge.{Sound as StoreSound};
+ghost use Rattle.layout.specs.Layout.{allRows};
+ghost use Rattle.slots.specs.View.{view};
+ghost use Rattle.rows.specs.Entries.{unpack};
+ghost use Rattle.rows.specs.Order.{Held};
 ghost use Rattle.measure.specs.Marks.{Marked, Unmarked, added, bare, marking, standing};
 ghost use Rattle.measure.specs.Fitting.{fitting};
 ghost use Rattle.turn.specs.Turns.{leave};
-use store::STORE_FREE;
+use layout::STORE_FREE;
 
 // What a mark adds to a length. Lengths are at most 4,096, so a marked one is at least this and no other is; it is at most 12,288, so none
 // is taken for the mark of a free slot, 65,535.
@@ -60,7 +60,7 @@ fn mark(lens: &mut [u16], all: usize, row: usize, delete: bool)
 
 // How many of the first n rows fit into cap bytes. In delete mode the packets of those that do are marked.
 fn mark_fitting(
-    setup: store::Setup,
+    setup: layout::Setup,
     store: &[u8],
     lens: &mut [u16],
     rows: &[u64],
@@ -74,12 +74,12 @@ fn mark_fitting(
     ensures { λ r. ⌜ (r ≡ fitting (leave delete) 8 cap (unpack n (now (rows .entry))) (view setup (now (store .entry)) (now (lens .entry))))
         × Marked delete (allRows setup) (now (lens .entry)) (now (lens .exit)) ⌝ }
 {
-    let all = store::judged::rows(setup);
+    let all = layout::rows(setup);
     let mut used: usize = 8;
     let mut i: usize = 0;
     while i < n {
-        let info = table::row::tc_info(rows, n, i);
-        let row = store::judged::row_of(setup, info.addr);
+        let info = rows::tc_info(rows, n, i);
+        let row = layout::row_of(setup, info.addr);
         let len = bytes_left(lens, all, row);
         let next = used + 21 + len;
         if cap < next {
@@ -119,7 +119,7 @@ fn unmark(lens: &mut [u16], n: usize)
 
 // How many of the first n rows fit into cap bytes. The length table is as it was.
 pub fn measure(
-    setup: store::Setup,
+    setup: layout::Setup,
     store: &[u8],
     lens: &mut [u16],
     rows: &[u64],
@@ -137,6 +137,6 @@ pub fn measure(
     if !delete {
         return m;
     }
-    unmark(lens, store::judged::rows(setup));
+    unmark(lens, layout::rows(setup));
     m
 }

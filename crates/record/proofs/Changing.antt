@@ -6,8 +6,8 @@ use mathlib.Core.Path.{_≡_, _∙_, ap, refl}
 use Rattle.rules.proofs.Order.{refusal-keeps}
 use Rattle.rules.specs.Papers.{Outcome, Paper, after, says}
 use Rattle.rules.specs.Tests.{unless}
-use Rattle.store.specs.Refusals.{paper as storePaper}
-use Rattle.store.specs.declared.StoreRefusal.the-variants.{StateDamaged}
+use Rattle.lookup.specs.Refusals.{paper as storePaper}
+use Rattle.slots.specs.declared.StoreRefusal.the-variants.{StateDamaged}
 use Rattle.time.specs.Time.{inRange}
 use Rattle.time.specs.declared.UnixTime.{UnixTime}
 use Rattle.record.specs.Record.{Changes, clockIn, markIn, timesInRange, withClock, withMark}

@@ -5,7 +5,7 @@ use lib.Dec.{eqb}
 use borrow.Author.Tests.{eqb-false}
 use mathlib.Core.Bool.{false}
 use mathlib.Core.Path.{_≡_, ap, refl}
-use Rattle.store.proofs.Numbers.{numbered as store-numbered}
+use Rattle.lookup.proofs.Numbers.{numbered as store-numbered}
 use Rattle.record.specs.Refusals.{paper}
 use Rattle.record.specs.declared.ScheduleRefusal.{ScheduleRefusal}
 use Rattle.record.specs.declared.ScheduleRefusal.the-variants.{BadTime, BadTimestamp, LogTooSmall, NestedScheduledTc, ReleaseTimeInTimeMargin, ReversedWindow, ScheduleFull, Store, TcDataEmpty, TcUnreadable, WrongService, WrongSubservice}

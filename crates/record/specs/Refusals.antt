@@ -3,7 +3,7 @@ use Prim.Native.Nat.{ℕ, _+_, _-_}
 use lib.IntN.{ℤ, negsuc, pos}
 use mathlib.Core.List.{List, [], _∷_}
 use Rattle.rules.specs.Papers.{Paper, no}
-use Rattle.store.specs.Refusals.{paper as storePaper}
+use Rattle.lookup.specs.Refusals.{paper as storePaper}
 use Rattle.time.specs.declared.Margin.{Margin}
 use Rattle.time.specs.declared.UnixTime.{UnixTime}
 use Rattle.record.specs.declared.Done.{Done}

@@ -1,5 +1,5 @@
 // The scheduler's record and what changes it alone: setting the clock, enable, disable. And the schedule's refusals.
-use store::StoreRefusal;
+use slots::StoreRefusal;
 use time::Margin;
 use time::UnixTime;
 ghost use mathlib.Core.Path.{_≡_};

@@ -1,14 +1,14 @@
 // Refusals in words: document 01's number, and why.
 use crate::clock;
 use record::ScheduleRefusal;
-use store::StoreIdError;
-use store::StoreRefusal;
+use slots::StoreIdError;
+use slots::StoreRefusal;
 use text::out;
 use time::Margin;
 use time::UnixTime;
 ghost use mathlib.Core.Path.{_≡_};
 ghost use Rattle.record.specs.Refusals.{paper};
-ghost use Rattle.store.specs.Refusals.{badPaper, paper as storePaper};
+ghost use Rattle.lookup.specs.Refusals.{badPaper, paper as storePaper};
 
 fn id_number(e: StoreIdError) -> u64
     ensures { λ r. ⌜ r ≡ badPaper e .number ⌝ }

@@ -2,8 +2,8 @@
 use Prim.Native.Nat.{_<_, _≤_, suc, zero, ℕ}
 use Rattle.room.proofs.Grow.{NamedAt, Slotted, grow, shape}
 use Rattle.room.specs.FreeSlot.{MoreChangeNothing, slotTaken}
-use Rattle.store.specs.Address.{addressOf, poolOf, slotOf}
-use Rattle.store.specs.Pools.{Choice, Pool, Slot, allTaken, choose, free, into, lowest, next, pick, shift, taken, tooLarge}
+use Rattle.address.specs.Address.{addressOf, poolOf, slotOf}
+use Rattle.slots.specs.Pools.{Choice, Pool, Slot, allTaken, choose, free, into, lowest, next, pick, shift, taken, tooLarge}
 use lib.Dec.{leb}
 use lib.ListN.{length}
 use mathlib.Core.Bool.{Bool, false, true}

@@ -1,8 +1,9 @@
 -- The deletions on the smaller scheduler and on the larger.
 use Prim.Native.Nat.{ℕ}
-use Rattle.deletions.specs.Deleting.{Swept, clearIn, deleteByIdIn, deleteKeepingIn, deleteWindowIn, disabled, freed, resetIn, sweep, swept, takeIn, unswept}
-use Rattle.deletions.specs.Windowing.{windowOf, windowed}
-use Rattle.deletions.specs.declared.Window.{Window}
+use Rattle.deletions.specs.Deleting.{Swept, clearIn, deleteWindowIn, disabled, resetIn, sweep, swept, unswept}
+use Rattle.by_id.specs.ById.{deleteByIdIn, deleteKeepingIn, freed, takeIn}
+use Rattle.windows.specs.Windowing.{windowOf, windowed}
+use Rattle.windows.specs.declared.Window.{Window}
 use Rattle.room.proofs.Alike.{Left, answers, by-test, refuses}
 use Rattle.room.proofs.Entries.{Slots, filter-slots, slot-at, without-slots}
 use Rattle.room.proofs.Grow.{Slotted, grow, shape}
@@ -12,11 +13,11 @@ use Rattle.rules.specs.Papers.{Outcome, done, into, refused}
 use Rattle.rules.specs.Tests.{unless}
 use Rattle.schedule.specs.State.{State, withEntries, withPools}
 use Rattle.store.specs.Calls.{deleteIn}
-use Rattle.store.specs.Pools.{Pool}
-use Rattle.table.specs.Edits.{without}
-use Rattle.table.specs.Entries.{Entry}
-use Rattle.table.specs.Match.{none, victim}
-use Rattle.table.specs.Windows.{inWindow, outside, within}
+use Rattle.slots.specs.Pools.{Pool}
+use Rattle.table_edit.specs.Edits.{without}
+use Rattle.rows.specs.Entries.{Entry}
+use Rattle.selection.specs.Match.{none, victim}
+use Rattle.selection.specs.Windows.{inWindow, outside, within}
 use borrow.Author.Tests.{ltb-true}
 use lib.Dec.{ltb}
 use lib.ListN.{getD, length}

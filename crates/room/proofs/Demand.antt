@@ -9,7 +9,7 @@ use Rattle.schedule.specs.Starting.{freshState}
 use Rattle.schedule.specs.State.{State, withPools}
 use Rattle.schedule.specs.declared.Setup.{Setup}
 use Rattle.scheduler.specs.Steps.{Answer, Request, Stepped, run, step}
-use Rattle.store.specs.Pools.{Pool}
+use Rattle.slots.specs.Pools.{Pool}
 use lib.ListN.{length}
 use mathlib.Core.Bool.{Bool, cond, false, true}
 use mathlib.Core.List.{List, [], _∷_}

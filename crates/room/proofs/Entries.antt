@@ -1,9 +1,9 @@
 -- Entries whose addresses name slots of the smaller store: every change of the schedule keeps that.
 use Prim.Native.Nat.{_+_, _<_, suc, zero, ℕ}
 use Rattle.room.proofs.Grow.{Slotted}
-use Rattle.table.specs.Edits.{insertSorted, without}
-use Rattle.table.specs.Entries.{Entry, time}
-use Rattle.table.specs.Windows.{filter}
+use Rattle.table_edit.specs.Edits.{insertSorted, without}
+use Rattle.rows.specs.Entries.{Entry, time}
+use Rattle.selection.specs.Windows.{filter}
 use lib.Dec.{leb}
 use lib.ListN.{drop, getD, length, take}
 use mathlib.Core.Bool.{Bool, cond, false, true}

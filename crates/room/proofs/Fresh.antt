@@ -6,12 +6,12 @@ use Rattle.room.specs.Room.{Named, Roomier}
 use Rattle.rules.proofs.All.{all-at, all-each}
 use Rattle.schedule.specs.Judge.{setupOk}
 use Rattle.schedule.specs.declared.Setup.{Setup}
-use Rattle.store.specs.Address.{poolOf, slotOf}
+use Rattle.address.specs.Address.{poolOf, slotOf}
 use Rattle.store.specs.Calls.{freshPool, freshPools}
-use Rattle.store.specs.Judge.{poolOkAt, setupOk as storeSetupOk}
-use Rattle.store.specs.Layout.{slotsAt}
-use Rattle.store.specs.Pools.{Pool, free}
-use Rattle.store.specs.View.{each}
+use Rattle.layout.specs.Judge.{poolOkAt, setupOk as storeSetupOk}
+use Rattle.layout.specs.Layout.{slotsAt}
+use Rattle.slots.specs.Pools.{Pool, free}
+use Rattle.slots.specs.View.{each}
 use borrow.Author.Tests.{leb-true}
 use lib.ListN.{length, length-replicate, replicate, replicate-append-replicate}
 use mathlib.Core.Bool.{true}

@@ -1,7 +1,8 @@
 -- A larger store is a smaller one with fresh slots behind each subpool; to find and to edit a slot of the smaller commutes with that.
 use Prim.Native.Nat.{_<_, suc, zero, ℕ}
-use Rattle.store.specs.Address.{poolOf, slotOf}
-use Rattle.store.specs.Pools.{Pool, Slot, edit, editAt, editSlot, find, findAt, findSlot, free}
+use Rattle.address.specs.Address.{poolOf, slotOf}
+use Rattle.slots.specs.Pools.{Pool, Slot, find, findAt, findSlot, free}
+use Rattle.store.specs.Edits.{edit, editAt, editSlot}
 use lib.ListN.{length, replicate}
 use mathlib.Core.List.{List, [], _++_, _∷_}
 use mathlib.Core.Path.{_≡_, ap, refl}

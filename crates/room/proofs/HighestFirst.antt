@@ -2,7 +2,7 @@
 -- Assumes nothing.
 use Prim.Native.Nat.{ℕ}
 use Rattle.room.specs.FreeSlot.{MoreChangeNothing, highest}
-use Rattle.store.specs.Pools.{free}
+use Rattle.slots.specs.Pools.{free}
 use mathlib.Core.List.{[], _∷_}
 use mathlib.Core.Option.{Option, none, some}
 use mathlib.Core.Path.{_≡_, ap}

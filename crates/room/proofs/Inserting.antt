@@ -1,6 +1,8 @@
 -- The insertions on the smaller scheduler and on the larger.
 use Prim.Native.Nat.{_<_, _≤_, ℕ}
-use Rattle.insertions.specs.Inserting.{activity, enter, entered, insertStoredIn, insertUnwrappedIn, insertWrappedIn, opened, stamped, timed}
+use Rattle.insertions.specs.Inserting.{activity, entered, insertUnwrappedIn}
+use Rattle.gate.specs.Entering.{enter, insertStoredIn, timed}
+use Rattle.wrapped.specs.Wrapped.{insertWrappedIn, opened, stamped}
 use Rattle.packet.specs.Packet.{readOf, userDataOf}
 use Rattle.packet.specs.declared.Reading.{Reading}
 use Rattle.packet.specs.declared.Reading.the-variants.{Packet, Unreadable}
@@ -17,8 +19,8 @@ use Rattle.schedule.specs.declared.Setup.{Setup}
 use Rattle.stamp.specs.Stamp.{stampOf}
 use Rattle.stamp.specs.declared.Stamp.{Stamp}
 use Rattle.stamp.specs.declared.Stamp.the-variants.{At, Refused}
-use Rattle.store.specs.Pools.{Pool}
-use Rattle.table.specs.Entries.{entryOf}
+use Rattle.slots.specs.Pools.{Pool}
+use Rattle.rows.specs.Entries.{entryOf}
 use Rattle.time.specs.Time.{momentOf}
 use Rattle.time.specs.declared.UnixTime.{UnixTime}
 use borrow.Author.Tests.{lt-ltb, ltb-true}

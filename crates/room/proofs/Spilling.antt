@@ -6,11 +6,13 @@ use Rattle.rules.specs.Papers.{after, into, no, says}
 use Rattle.rules.specs.Tests.{allBelow, allOf}
 use Rattle.schedule.specs.Judge.{setupOk}
 use Rattle.scheduler.specs.Steps.{Answer, add, carried, run, step}
-use Rattle.store.specs.Calls.{addIn, deleteIn, freshPools, ifHeld, ifNamed, place}
-use Rattle.store.specs.Judge.{lastSize, setupOk as storeSetupOk}
-use Rattle.store.specs.Layout.{bytesBefore}
-use Rattle.store.specs.Pools.{choose, editAt, findAt, over}
-use Rattle.store.specs.View.{each}
+use Rattle.store.specs.Calls.{addIn, deleteIn, freshPools, place}
+use Rattle.lookup.specs.Calls.{ifHeld, ifNamed}
+use Rattle.layout.specs.Judge.{lastSize, setupOk as storeSetupOk}
+use Rattle.layout.specs.Layout.{bytesBefore}
+use Rattle.slots.specs.Pools.{choose, findAt, over}
+use Rattle.store.specs.Edits.{editAt}
+use Rattle.slots.specs.View.{each}
 use lib.IntN.{pos}
 use lib.ListN.{getD, replicate}
 use mathlib.Core.Bool.{Bool, true}

@@ -7,7 +7,7 @@ use Rattle.room.proofs.Grow.{grow, shape}
 use Rattle.rules.specs.Papers.{Outcome, done, into, refused, says}
 use Rattle.schedule.specs.State.{State, withPools}
 use Rattle.scheduler.specs.Steps.{withRecord}
-use Rattle.store.specs.Pools.{Pool}
+use Rattle.slots.specs.Pools.{Pool}
 use mathlib.Core.List.{List}
 use mathlib.Core.Path.{_≡_}
 

@@ -13,13 +13,13 @@ use Rattle.rules.specs.Papers.{Outcome, after, done, into, refused, says}
 use Rattle.schedule.specs.State.{State, recordOf, withPools}
 use Rattle.schedule.specs.declared.Setup.{Setup}
 use Rattle.schedule.specs.Counting.{countIn}
-use Rattle.deletions.specs.Windowing.{retrieveIn}
-use Rattle.deletions.specs.declared.Window.{Window}
+use Rattle.windows.specs.Windowing.{retrieveIn}
+use Rattle.windows.specs.declared.Window.{Window}
 use Rattle.record.specs.Record.{clockIn, markIn}
 use Rattle.scheduler.specs.Steps.{Request, Stepped, add, carried, count, delete, deleteById, deleteKeeping, deleteWindow, disable, enable, hasElementAt, insertStored, insertUnwrapped, insertWrapped, lenOfData, looked, modify, read, reset, retrieve, setClock, step, tick, ticked}
 use Rattle.tick.specs.Tick.{Logged}
-use Rattle.store.specs.Calls.{packetIn}
-use Rattle.store.specs.Pools.{edit, rewrite}
+use Rattle.lookup.specs.Calls.{packetIn}
+use Rattle.store.specs.Edits.{edit, rewrite}
 use lib.ListN.{length}
 use mathlib.Core.Bool.{false, true}
 use mathlib.Core.List.{List, [], _∷_}

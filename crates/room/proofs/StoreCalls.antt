@@ -5,9 +5,11 @@ use Rattle.room.proofs.Choosing.{Inside, Narrow, choose-grow, choose-in
 use Rattle.room.proofs.Grow.{Slotted, edit-grow, editAt-grow, find-grow, grow, shape, shape-edit, shape-editAt}
 use Rattle.room.specs.Room.{struck}
 use Rattle.rules.specs.Papers.{done, into}
-use Rattle.store.specs.Calls.{addIn, deleteIn, hasIn, ifHeld, ifNamed, lenIn, packetIn, place, readIn}
-use Rattle.store.specs.Pools.{Choice, Found, Pool, allTaken, edit, fill, find, held, noPool, noSlot, tooLarge, vacant, wipe}
-use Rattle.store.specs.Pools as P
+use Rattle.store.specs.Calls.{addIn, deleteIn, place}
+use Rattle.lookup.specs.Calls.{hasIn, ifHeld, ifNamed, lenIn, packetIn, readIn}
+use Rattle.slots.specs.Pools.{Choice, Found, Pool, allTaken, find, held, noPool, noSlot, tooLarge, vacant}
+use Rattle.store.specs.Edits.{edit, fill, wipe}
+use Rattle.slots.specs.Pools as P
 use lib.ListN.{getD, length}
 use mathlib.Core.Bool.{Bool, false}
 use mathlib.Core.List.{List, []}

@@ -6,12 +6,13 @@ use Rattle.room.proofs.Grow.{Slotted, edit-grow, grow, shape, shape-edi
 use Rattle.room.proofs.States.{Fit, grown}
 use Rattle.room.proofs.StoreCalls.{found, here}
 use Rattle.schedule.specs.State.{State}
-use Rattle.store.specs.Pools.{Pool, edit, find, wipe}
-use Rattle.table.specs.Entries.{Entry}
+use Rattle.slots.specs.Pools.{Pool, find}
+use Rattle.store.specs.Edits.{edit, wipe}
+use Rattle.rows.specs.Entries.{Entry}
 use Rattle.tick.specs.Tick.{Logged, firstLacks, handedOut, tickIn, usable}
 use Rattle.time.specs.Time.{instant}
-use Rattle.turns.specs.Parts.{firstTotal}
-use Rattle.turns.specs.Turns.{Handout, always, handout, leave}
+use Rattle.turns.specs.Released.{firstTotal}
+use Rattle.turn.specs.Turns.{Handout, always, handout, leave}
 use Rattle.turns_laws.proofs.Follows.{Addresses, Same as Following, follows}
 use Rattle.turns_laws.proofs.Split.{splits}
 use lib.ListN.{length}

@@ -3,7 +3,7 @@ use Prim.Native.Nat.{suc, ℕ}
 use mathlib.Core.List.{List, [], _++_, _∷_}
 use mathlib.Core.Option.{IsSome, Option, none, some}
 use mathlib.Core.Path.{_≡_}
-use Rattle.store.specs.Pools.{Slot, free, lowest, taken}
+use Rattle.slots.specs.Pools.{Slot, free, lowest, taken}
 
 -- by a rule for the slot that is taken, of those of a subpool
 unfoldable pub MoreChangeNothing : (List Slot → Option ℕ) → Type 0

@@ -11,8 +11,8 @@ use Rattle.schedule.specs.Judge.{setupOk}
 use Rattle.schedule.specs.Starting.{freshState}
 use Rattle.scheduler.specs.Steps.{Answer, Request, add, count, delete, deleteById, deleteKeeping, deleteWindow, disable, enable, hasElementAt, insertStored, insertUnwrapped, insertWrapped, lenOfData, modify, read, reset, retrieve, run, setClock, tick}
 use Rattle.schedule.specs.declared.Setup.{Setup}
-use Rattle.store.specs.Address.{poolOf, slotOf}
-use Rattle.store.specs.Layout.{sizeAt, slotsAt}
+use Rattle.address.specs.Address.{poolOf, slotOf}
+use Rattle.layout.specs.Layout.{sizeAt, slotsAt}
 use Rattle.time.specs.declared.Margin.{Margin}
 use Rattle.time.specs.declared.UnixTime.{UnixTime}
 

@@ -5,7 +5,7 @@ use mathlib.Core.List.{List, [], _∷_}
 use mathlib.Core.Path.{_≡_, _∙_, ap, sym}
 use Rattle.record.specs.declared.Record.{Record}
 use Rattle.rules.specs.Papers.{no, says}
-use Rattle.table.proofs.Rows.{length-unpack}
+use Rattle.rows.proofs.Rows.{length-unpack}
 use Rattle.schedule.specs.Answers.{countedPaper}
 use Rattle.schedule.specs.Judge.{Sound, judging}
 use Rattle.schedule.specs.State.{stateOf}

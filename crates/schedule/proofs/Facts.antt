@@ -9,10 +9,10 @@ use mathlib.Core.List.{List}
 use mathlib.Core.Path.{_≡_}
 use Rattle.record.specs.declared.Record.{Record}
 use Rattle.rules.proofs.All.{all-each, and-left, and-right}
-use Rattle.store.proofs.Bounds.{buffers-fit}
-use Rattle.store.specs.Judge.{Sized, Sound as StoreSound, setupOk as storeSetupOk}
-use Rattle.table.specs.Entries.{unpack, width}
-use Rattle.table.specs.Order.{mostEntries, ordered, Sound as TableSound}
+use Rattle.layout.proofs.Bounds.{buffers-fit}
+use Rattle.layout.specs.Judge.{Sized, Sound as StoreSound, setupOk as storeSetupOk}
+use Rattle.rows.specs.Entries.{unpack, width}
+use Rattle.rows.specs.Order.{mostEntries, ordered, Sound as TableSound}
 use Rattle.time.proofs.Judged.{margin-judged, time-judged}
 use Rattle.time.specs.Time.{InRange, MarginInRange, inRange, marginInRange}
 use Rattle.schedule.specs.Inside.{Long}

@@ -13,8 +13,8 @@ use Rattle.record.specs.declared.ScheduleRefusal.the-variants.{Store}
 use Rattle.rules.proofs.Order.{all-passed, one-failed}
 use Rattle.rules.specs.Papers.{Outcome, judgedBy, refused, says}
 use Rattle.rules.specs.Tests.{unless}
-use Rattle.store.specs.Refusals.{paper as storePaper}
-use Rattle.store.specs.declared.StoreRefusal.the-variants.{BadBuffers, BadSetup, StateDamaged}
+use Rattle.lookup.specs.Refusals.{paper as storePaper}
+use Rattle.slots.specs.declared.StoreRefusal.the-variants.{BadBuffers, BadSetup, StateDamaged}
 use Rattle.schedule.specs.Answers.{verdictPaper}
 use Rattle.schedule.specs.Judge.{Judges, Sound, buffersOk, judging, setupOk, stateOk}
 use Rattle.schedule.specs.State.{State, stateOf}

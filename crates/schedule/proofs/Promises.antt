@@ -7,12 +7,12 @@ use mathlib.Core.Path.{_≡_, ap}
 use Rattle.record.specs.declared.Record.{Record}
 use Rattle.rules.specs.Tests.{unless}
 use Rattle.rules.specs.Papers.{Outcome, Paper, after, done, judgedBy, no, refused, says}
-use Rattle.store.proofs.Bounds.{bounds}
+use Rattle.layout.proofs.Bounds.{bounds}
 use Rattle.store.proofs.Laid.{leaves-same, lens-laid, same-lens, same-store, store-laid}
-use Rattle.store.specs.Layout.{allRows}
-use Rattle.store.specs.View.{Leaves, lensWith, storeWith, view}
-use Rattle.table.proofs.Rows.{length-unpack}
-use Rattle.table.specs.Entries.{relaid}
+use Rattle.layout.specs.Layout.{allRows}
+use Rattle.slots.specs.View.{Leaves, lensWith, storeWith, view}
+use Rattle.rows.proofs.Rows.{length-unpack}
+use Rattle.rows.specs.Entries.{relaid}
 use Rattle.schedule.specs.Judge.{Judges, Sound, judging}
 use Rattle.schedule.specs.Promise.{Does, Writes}
 use Rattle.schedule.specs.State.{State, recordOf, stateOf, withCount}

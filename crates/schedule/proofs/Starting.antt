@@ -16,14 +16,14 @@ use Rattle.rules.specs.Papers.{Outcome, after, done, says}
 use Rattle.rules.specs.Tests.{unless}
 use Rattle.store.proofs.Laid.{lens-laid, store-laid}
 use Rattle.store.specs.Calls.{freshPools}
-use Rattle.store.specs.Judge.{Sized}
-use Rattle.store.specs.Layout.{allRows}
-use Rattle.store.specs.Refusals.{paper as storePaper}
-use Rattle.store.specs.View.{Leaves}
-use Rattle.store.specs.declared.StoreRefusal.the-variants.{BadBuffers, BadSetup}
-use Rattle.table.proofs.Order.{past-end}
-use Rattle.table.specs.Edits.{afterRemove, without}
-use Rattle.table.specs.Entries.{Entry, relaid, unpack, width}
+use Rattle.layout.specs.Judge.{Sized}
+use Rattle.layout.specs.Layout.{allRows}
+use Rattle.lookup.specs.Refusals.{paper as storePaper}
+use Rattle.slots.specs.View.{Leaves}
+use Rattle.slots.specs.declared.StoreRefusal.the-variants.{BadBuffers, BadSetup}
+use Rattle.rows.proofs.Rows.{past-end}
+use Rattle.table_edit.specs.Edits.{afterRemove, without}
+use Rattle.rows.specs.Entries.{Entry, relaid, unpack, width}
 use Rattle.time.specs.Time.{inRange, marginInRange}
 use Rattle.time.specs.declared.Margin.{Margin}
 use Rattle.time.specs.declared.UnixTime.{UnixTime}

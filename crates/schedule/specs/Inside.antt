@@ -6,8 +6,8 @@ use mathlib.Core.Path.{_≡_}
 use Rattle.record.specs.Refusals.{paper}
 use Rattle.record.specs.declared.Record.{Record}
 use Rattle.rules.specs.Papers.{Outcome, done, refused}
-use Rattle.store.specs.Layout.{allRows}
-use Rattle.table.specs.Entries.{width}
+use Rattle.layout.specs.Layout.{allRows}
+use Rattle.rows.specs.Entries.{width}
 use Rattle.time.specs.declared.Margin.{Margin}
 use Rattle.time.specs.declared.UnixTime.{UnixTime}
 use Rattle.schedule.specs.Judge.{buffersOk, setupOk}

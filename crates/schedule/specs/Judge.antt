@@ -9,9 +9,9 @@ use Rattle.record.specs.Record.{timesInRange}
 use Rattle.record.specs.declared.Record.{Record}
 use Rattle.rules.specs.Papers.{Outcome, done, judgedBy, says}
 use Rattle.rules.specs.Tests.{allOf}
-use Rattle.store.specs.Judge.{buffersOk as storeBuffersOk, lensOk, setupOk as storeSetupOk}
-use Rattle.table.specs.Entries.{unpack, width}
-use Rattle.table.specs.Order.{mostEntries, ordered}
+use Rattle.layout.specs.Judge.{buffersOk as storeBuffersOk, lensOk, setupOk as storeSetupOk}
+use Rattle.rows.specs.Entries.{unpack, width}
+use Rattle.rows.specs.Order.{mostEntries, ordered}
 use Rattle.schedule.specs.Answers.{verdictPaper}
 use Rattle.schedule.specs.State.{State, stateOf}
 use Rattle.schedule.specs.declared.Setup.{Setup}

@@ -5,8 +5,8 @@ use mathlib.Core.List.{List}
 use mathlib.Core.Path.{_≡_}
 use Rattle.record.specs.declared.Record.{Record}
 use Rattle.rules.specs.Papers.{Outcome, Paper, after, says}
-use Rattle.store.specs.View.{Leaves, lensWith, storeWith}
-use Rattle.table.specs.Entries.{relaid}
+use Rattle.slots.specs.View.{Leaves, lensWith, storeWith}
+use Rattle.rows.specs.Entries.{relaid}
 use Rattle.schedule.specs.State.{State, recordOf, stateOf}
 use Rattle.schedule.specs.declared.Setup.{Setup}
 

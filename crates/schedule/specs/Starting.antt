@@ -8,8 +8,8 @@ use Rattle.record.specs.declared.Record.{Record}
 use Rattle.rules.specs.Papers.{Outcome, Paper, after, done, no, refused, says}
 use Rattle.rules.specs.Tests.{unless}
 use Rattle.store.specs.Calls.{freshPools}
-use Rattle.store.specs.View.{lensWith, storeWith}
-use Rattle.table.specs.Entries.{relaid}
+use Rattle.slots.specs.View.{lensWith, storeWith}
+use Rattle.rows.specs.Entries.{relaid}
 use Rattle.time.specs.Time.{inRange, marginInRange}
 use Rattle.time.specs.declared.Margin.{Margin}
 use Rattle.time.specs.declared.UnixTime.{UnixTime}

@@ -4,9 +4,9 @@ use lib.ListN.{length}
 use mathlib.Core.Bool.{Bool}
 use mathlib.Core.List.{List}
 use Rattle.record.specs.declared.Record.{Record}
-use Rattle.store.specs.Pools.{Pool}
-use Rattle.store.specs.View.{view}
-use Rattle.table.specs.Entries.{Entry, unpack}
+use Rattle.slots.specs.Pools.{Pool}
+use Rattle.slots.specs.View.{view}
+use Rattle.rows.specs.Entries.{Entry, unpack}
 use Rattle.time.specs.declared.Margin.{Margin}
 use Rattle.time.specs.declared.UnixTime.{UnixTime}
 use Rattle.schedule.specs.declared.Setup.{Setup}

@@ -3,7 +3,7 @@ use record::Changed;
 use record::Done;
 use record::Record;
 use record::ScheduleRefusal;
-use store::StoreRefusal;
+use slots::StoreRefusal;
 use time::Margin;
 use time::UnixTime;
 ghost use mathlib.Core.Path.{_≡_};
@@ -23,7 +23,7 @@ pub use tests::setup_ok;
 
 // The store's setup, and the number of entries.
 pub struct Setup {
-    pub store: store::Setup,
+    pub store: layout::Setup,
     pub entries: usize,
 }
 
@@ -80,7 +80,7 @@ pub fn fresh_start(
             let s = setup.store;
             let n = setup.entries;
             store::judged::fresh(s, store, lens);
-            table::edit::remove(rows, n, 0, n);
+            table_edit::remove(rows, n, 0, n);
             Changed {
                 next: start::started(clock, margin),
                 answer: Done::Ok,

@@ -4,7 +4,7 @@ use crate::Verdict;
 use crate::tests;
 use record::Record;
 use record::ScheduleRefusal;
-use store::StoreRefusal;
+use slots::StoreRefusal;
 use time::Margin;
 use time::UnixTime;
 ghost use mathlib.Core.Path.{_≡_};

@@ -1,7 +1,7 @@
 // The tests of refusals 1 to 3 over setup, record, store and rows together.
 use crate::Setup;
 use record::Record;
-use table::ROW;
+use rows::ROW;
 ghost use mathlib.Core.Path.{_≡_};
 ghost use mathlib.Core.Bool.{true};
 ghost use lib.ListN.{length};
@@ -15,7 +15,7 @@ pub fn setup_ok(setup: Setup) -> bool
     ensures { λ r. ⌜ r ≡ setupOk setup ⌝ }
 {
     let s = setup.store;
-    let ok = store::setup_ok(s);
+    let ok = layout::setup_ok(s);
     if !ok {
         return false;
     }
@@ -30,7 +30,7 @@ pub fn buffers_ok(setup: Setup, room: usize, lens: usize, rows: usize) -> bool
     ensures { λ r. ⌜ r ≡ buffersOk setup room lens rows ⌝ }
 {
     let s = setup.store;
-    let ok = store::buffers_ok(s, room, lens);
+    let ok = layout::buffers_ok(s, room, lens);
     if !ok {
         return false;
     }
@@ -48,10 +48,10 @@ pub fn state_ok(setup: Setup, rec: Record, lens: &[u16], rows: &[u64]) -> bool
     if !times {
         return false;
     }
-    let order = table::judge::in_order(rows, rec.count);
+    let order = rows::judge::in_order(rows, rec.count);
     if !order {
         return false;
     }
     let s = setup.store;
-    store::lens_ok(s, lens)
+    layout::lens_ok(s, lens)
 }

@@ -10,11 +10,11 @@ use mathlib.Core.List.{List, [], _∷_}
 use mathlib.Core.Path.{_∙_, _≡_, ap, refl}
 use Rattle.deletions.specs.declared.Last.{Last}
 use Rattle.deletions.specs.declared.Last.the-variants as La
-use Rattle.store.specs.Refusals.{paper as storePaper}
-use Rattle.store.specs.declared.StoreIdError.the-variants.{InvalidPacketIdx, InvalidSubpool}
-use Rattle.store.specs.declared.StoreRefusal.{StoreRefusal}
-use Rattle.store.specs.declared.StoreRefusal.the-variants.{BadBuffers, BadSetup, BufferTooSmall, DataDoesNotExist}
-use Rattle.store.specs.declared.StoreRefusal.the-variants.{DataTooLarge, InvalidStoreId, StateDamaged, StoreFull}
+use Rattle.lookup.specs.Refusals.{paper as storePaper}
+use Rattle.slots.specs.declared.StoreIdError.the-variants.{InvalidPacketIdx, InvalidSubpool}
+use Rattle.slots.specs.declared.StoreRefusal.{StoreRefusal}
+use Rattle.slots.specs.declared.StoreRefusal.the-variants.{BadBuffers, BadSetup, BufferTooSmall, DataDoesNotExist}
+use Rattle.slots.specs.declared.StoreRefusal.the-variants.{DataTooLarge, InvalidStoreId, StateDamaged, StoreFull}
 use Rattle.face_words.specs.declared.Words.{Words}
 
 -- refusal 13's six values

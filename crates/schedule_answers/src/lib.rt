@@ -15,7 +15,9 @@ use time::Margin;
 use time::UnixTime;
 ghost use mathlib.Core.Path.{_≡_};
 ghost use mathlib.Core.List.{[]};
-ghost use Rattle.deletions.specs.Answers.{clearedPaper, freedPaper, lastPaper, retrievedPaper, takenPaper};
+ghost use Rattle.deletions.specs.Answers.{clearedPaper, lastPaper};
+ghost use Rattle.by_id.specs.Answers.{freedPaper, takenPaper};
+ghost use Rattle.windows.specs.Answers.{retrievedPaper};
 ghost use Rattle.face_words.specs.Inside.{wordsOf};
 ghost use Rattle.insertions.specs.Answers.{insertedPaper};
 ghost use Rattle.record.specs.Refusals.{donePaper, marginWords, paper, timeWords};
@@ -100,22 +102,22 @@ pub fn inserted(a: insertions::InsertAnswer) -> Words
     }
 }
 
-pub fn retrieved(a: deletions::Retrieved) -> Words
+pub fn retrieved(a: windows::Retrieved) -> Words
     ensures { λ r. ⌜ r ≡ wordsOf (retrievedPaper a) ⌝ }
 {
     match a {
-        deletions::Retrieved::Rows(p) => two(0, wide(p.first), wide(p.number)),
-        deletions::Retrieved::Refused(e) => refusal(e),
+        windows::Retrieved::Rows(p) => two(0, wide(p.first), wide(p.number)),
+        windows::Retrieved::Refused(e) => refusal(e),
     }
 }
 
-pub fn taken(a: deletions::TakeAnswer) -> Words
+pub fn taken(a: by_id::TakeAnswer) -> Words
     ensures { λ r. ⌜ r ≡ wordsOf (takenPaper a) ⌝ }
 {
     match a {
-        deletions::TakeAnswer::NoMatch => one(0, 0),
-        deletions::TakeAnswer::Address(address) => two(0, 1, address),
-        deletions::TakeAnswer::Refused(e) => refusal(e),
+        by_id::TakeAnswer::NoMatch => one(0, 0),
+        by_id::TakeAnswer::Address(address) => two(0, 1, address),
+        by_id::TakeAnswer::Refused(e) => refusal(e),
     }
 }
 
@@ -151,14 +153,14 @@ pub fn cleared(a: deletions::ClearAnswer) -> Words
     }
 }
 
-pub fn freed(a: deletions::FreeAnswer) -> Words
+pub fn freed(a: by_id::FreeAnswer) -> Words
     ensures { λ r. ⌜ r ≡ wordsOf (freedPaper a) ⌝ }
 {
     match a {
-        deletions::FreeAnswer::NoMatch => one(0, 0),
-        deletions::FreeAnswer::Deleted => two(0, 1, 1),
-        deletions::FreeAnswer::Missing(e) => behind(1, 0, store_refusal(e)),
-        deletions::FreeAnswer::Refused(e) => refusal(e),
+        by_id::FreeAnswer::NoMatch => one(0, 0),
+        by_id::FreeAnswer::Deleted => two(0, 1, 1),
+        by_id::FreeAnswer::Missing(e) => behind(1, 0, store_refusal(e)),
+        by_id::FreeAnswer::Refused(e) => refusal(e),
     }
 }
 

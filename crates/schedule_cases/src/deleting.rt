@@ -1,9 +1,9 @@
 // Retrieval by window, and the deletions.
 use crate::line;
 use deletions::Cleared;
-use deletions::Window;
 use record::Record;
 use schedule::Setup;
+use windows::Window;
 
 pub fn run(
     setup: Setup,
@@ -56,7 +56,7 @@ fn retrieve(
     rows: &[u64],
 ) -> Record {
     let w = window(text);
-    shown::retrieved(deletions::retrieve_by_time_filter(setup, rec, store, lens, rows, w));
+    shown::retrieved(schedule_public::retrieve_by_time_filter(setup, rec, store, lens, rows, w));
     rec
 }
 
@@ -75,7 +75,7 @@ fn delete(
     rows: &mut [u64],
 ) -> Record {
     let w = window(text);
-    cleared(deletions::delete_by_time_filter(setup, rec, store, lens, rows, w))
+    cleared(schedule_public::delete_by_time_filter(setup, rec, store, lens, rows, w))
 }
 
 fn reset(
@@ -85,7 +85,7 @@ fn reset(
     lens: &mut [u16],
     rows: &mut [u64],
 ) -> Record {
-    cleared(deletions::reset(setup, rec, store, lens, rows))
+    cleared(schedule_public::reset(setup, rec, store, lens, rows))
 }
 
 fn take(
@@ -97,7 +97,7 @@ fn take(
     rows: &mut [u64],
 ) -> Record {
     let id = line::number(text, 1);
-    let t = deletions::delete_by_request_id(setup, rec, store, lens, rows, id);
+    let t = schedule_public::delete_by_request_id(setup, rec, store, lens, rows, id);
     let a = t.answer;
     shown::taken(a);
     t.next
@@ -112,7 +112,7 @@ fn free(
     rows: &mut [u64],
 ) -> Record {
     let id = line::number(text, 1);
-    let f = deletions::delete_by_request_id_and_from_pool(setup, rec, store, lens, rows, id);
+    let f = schedule_public::delete_by_request_id_and_from_pool(setup, rec, store, lens, rows, id);
     let a = f.answer;
     shown::freed(a);
     f.next

@@ -53,7 +53,7 @@ fn show(b: Bench, text: &[u8], store: &[u8], lens: &[u16], rows: &[u64]) {
 fn vanish(b: Bench, text: &[u8], store: &mut [u8], lens: &mut [u16]) {
     let setup = b.setup;
     let addr = line::number(text, 1);
-    store::delete(setup.store, store, lens, addr);
+    store_public::delete(setup.store, store, lens, addr);
 }
 
 fn set_length(text: &[u8], lens: &mut [u16]) {
@@ -101,7 +101,7 @@ fn given(b: Bench, k: usize, text: &[u8]) -> Bench {
 pub fn setup(text: &[u8]) -> Setup {
     let sizes = [line::short(text, 2), line::short(text, 4), 0, 0, 0, 0, 0, 0];
     let slots = [line::short(text, 3), line::short(text, 5), 0, 0, 0, 0, 0, 0];
-    let s = store::Setup {
+    let s = layout::Setup {
         pools: line::index(text, 1),
         sizes: sizes,
         slots: slots,

@@ -43,7 +43,7 @@ fn wrapped(
 ) -> Record {
     let mut outer = [0u8; 64];
     let n = line::bytes(text, 1, &mut outer);
-    let i = insertions::insert_wrapped_tc(setup, rec, store, lens, rows, &outer[..n]);
+    let i = schedule_public::insert_wrapped_tc(setup, rec, store, lens, rows, &outer[..n]);
     inserted(i)
 }
 
@@ -58,7 +58,7 @@ fn unwrapped(
     let mut tc = [0u8; 64];
     let n = line::bytes(text, 3, &mut tc);
     let t = line::time(text, 1);
-    let i = insertions::insert_unwrapped_tc(setup, rec, store, lens, rows, t, &tc[..n]);
+    let i = schedule_public::insert_unwrapped_tc(setup, rec, store, lens, rows, t, &tc[..n]);
     inserted(i)
 }
 
@@ -73,6 +73,15 @@ fn stored(
     let t = line::time(text, 1);
     let id = line::number(text, 3);
     let addr = line::number(text, 4);
-    let c = insertions::insert_unwrapped_and_stored_tc(setup, rec, store, lens, rows, t, id, addr);
+    let c = schedule_public::insert_unwrapped_and_stored_tc(
+        setup,
+        rec,
+        store,
+        lens,
+        rows,
+        t,
+        id,
+        addr,
+    );
     calls::change(c)
 }

@@ -1,17 +1,19 @@
 -- Each refusal of the schedule, and each answer of its calls, found again from its number and values.
 -- Assumes nothing.
 use Prim.Native.Nat.{ℕ}
-use Rattle.deletions.specs.Answers.{clearedPaper, freedPaper, lastPaper, retrievedPaper, takenPaper}
+use Rattle.deletions.specs.Answers.{clearedPaper, lastPaper}
+use Rattle.by_id.specs.Answers.{freedPaper, takenPaper}
+use Rattle.windows.specs.Answers.{retrievedPaper}
 use Rattle.deletions.specs.declared.ClearAnswer.the-variants as Cl
 use Rattle.deletions.specs.declared.ClearAnswer.{ClearAnswer}
-use Rattle.deletions.specs.declared.FreeAnswer.the-variants as F
-use Rattle.deletions.specs.declared.FreeAnswer.{FreeAnswer}
+use Rattle.by_id.specs.declared.FreeAnswer.the-variants as F
+use Rattle.by_id.specs.declared.FreeAnswer.{FreeAnswer}
 use Rattle.deletions.specs.declared.Last.the-variants as La
 use Rattle.deletions.specs.declared.Last.{Last}
-use Rattle.deletions.specs.declared.Retrieved.the-variants as R
-use Rattle.deletions.specs.declared.Retrieved.{Retrieved}
-use Rattle.deletions.specs.declared.TakeAnswer.the-variants as Ta
-use Rattle.deletions.specs.declared.TakeAnswer.{TakeAnswer}
+use Rattle.windows.specs.declared.Retrieved.the-variants as R
+use Rattle.windows.specs.declared.Retrieved.{Retrieved}
+use Rattle.by_id.specs.declared.TakeAnswer.the-variants as Ta
+use Rattle.by_id.specs.declared.TakeAnswer.{TakeAnswer}
 use Rattle.deletions.specs.declared.Tally.{Tally}
 use Rattle.insertions.specs.Answers.{insertedPaper}
 use Rattle.insertions.specs.declared.InsertAnswer.the-variants as I
@@ -29,11 +31,11 @@ use Rattle.schedule.specs.declared.Counted.{Counted}
 use Rattle.schedule.specs.declared.Verdict.the-variants as Ve
 use Rattle.schedule.specs.declared.Verdict.{Verdict}
 use Rattle.scheduler.specs.Words.{Inside, Words}
-use Rattle.store.proofs.Numbers.{numbered as store-numbered}
-use Rattle.store.specs.Refusals.{paper as storePaper}
-use Rattle.store.specs.declared.StoreIdError.the-variants.{InvalidPacketIdx, InvalidSubpool}
-use Rattle.store.specs.declared.StoreRefusal.the-variants.{BadBuffers, BadSetup, BufferTooSmall, DataDoesNotExist, DataTooLarge, InvalidStoreId, StateDamaged, StoreFull}
-use Rattle.store.specs.declared.StoreRefusal.{StoreRefusal}
+use Rattle.lookup.proofs.Numbers.{numbered as store-numbered}
+use Rattle.lookup.specs.Refusals.{paper as storePaper}
+use Rattle.slots.specs.declared.StoreIdError.the-variants.{InvalidPacketIdx, InvalidSubpool}
+use Rattle.slots.specs.declared.StoreRefusal.the-variants.{BadBuffers, BadSetup, BufferTooSmall, DataDoesNotExist, DataTooLarge, InvalidStoreId, StateDamaged, StoreFull}
+use Rattle.slots.specs.declared.StoreRefusal.{StoreRefusal}
 use Rattle.store_laws.proofs.Back.{back as storeBack, there-and-back as store-there-and-back}
 use Rattle.time.specs.declared.Margin.{Margin}
 use Rattle.time.specs.declared.UnixTime.{UnixTime}

@@ -1,10 +1,13 @@
 -- What each call makes of a state that fits: a refusal, or a state that fits.
 -- Assumes nothing.
 use Prim.Native.Nat.{_<_, _≤_, suc, zero-le, ℕ}
-use Rattle.deletions.specs.Deleting.{Swept, clearIn, deleteByIdIn, deleteKeepingIn, deleteWindowIn, freed, resetIn, sweep, swept, takeIn, unswept}
-use Rattle.deletions.specs.Windowing.{windowOf, windowed}
-use Rattle.deletions.specs.declared.Window.{Window}
-use Rattle.insertions.specs.Inserting.{activity, enter, entered, insertStoredIn, insertUnwrappedIn, insertWrappedIn, opened, stamped, timed}
+use Rattle.deletions.specs.Deleting.{Swept, clearIn, deleteWindowIn, resetIn, sweep, swept, unswept}
+use Rattle.by_id.specs.ById.{deleteByIdIn, deleteKeepingIn, freed, takeIn}
+use Rattle.windows.specs.Windowing.{windowOf, windowed}
+use Rattle.windows.specs.declared.Window.{Window}
+use Rattle.insertions.specs.Inserting.{activity, entered, insertUnwrappedIn}
+use Rattle.gate.specs.Entering.{enter, insertStoredIn, timed}
+use Rattle.wrapped.specs.Wrapped.{insertWrappedIn, opened, stamped}
 use Rattle.packet.specs.Packet.{idOf, idWord, readOf, userDataOf}
 use Rattle.packet.specs.declared.Reading.the-variants.{Packet, Unreadable}
 use Rattle.packet.specs.declared.Reading.{Reading}
@@ -23,14 +26,16 @@ use Rattle.stamp.specs.Stamp.{Timely, stampOf}
 use Rattle.stamp.specs.declared.Stamp.the-variants.{At, Refused}
 use Rattle.stamp.specs.declared.Stamp.{Stamp}
 use Rattle.store.specs.Calls.{addIn, deleteIn}
-use Rattle.store.specs.Pools.{Pool, edit, rewrite}
-use Rattle.table.proofs.Order.{Head, InRange as EntryInRange, insert-ordered, ordered-cons, ordered-less, ordered-make, without-ordered}
-use Rattle.table.proofs.Stays.{length-insertSorted, length-without}
-use Rattle.table.specs.Edits.{insertSorted, without}
-use Rattle.table.specs.Entries.{Entry, entryOf, time}
-use Rattle.table.specs.Match.{victim}
-use Rattle.table.specs.Order.{ordered, orderedFrom}
-use Rattle.table.specs.Windows.{filter, inWindow, outside}
+use Rattle.slots.specs.Pools.{Pool}
+use Rattle.store.specs.Edits.{edit, rewrite}
+use Rattle.rows.proofs.Order.{Head, InRange as EntryInRange, ordered-cons, ordered-less, ordered-make}
+use Rattle.table_edit.proofs.Ordering.{insert-ordered, without-ordered}
+use Rattle.table_edit.proofs.Stays.{length-insertSorted, length-without}
+use Rattle.table_edit.specs.Edits.{insertSorted, without}
+use Rattle.rows.specs.Entries.{Entry, entryOf, time}
+use Rattle.selection.specs.Match.{victim}
+use Rattle.rows.specs.Order.{ordered, orderedFrom}
+use Rattle.selection.specs.Windows.{filter, inWindow, outside}
 use Rattle.time.proofs.Judged.{time-judged}
 use Rattle.time.proofs.Signed.{biased-le}
 use Rattle.time.specs.Time.{InRange, inRange, marginInRange, momentOf}

@@ -4,16 +4,16 @@ use Prim.Native.Nat.{_*_, _+_, _<_, _≤_, suc, zero, ℕ}
 use Rattle.rules.proofs.All.{all-at, all-each}
 use Rattle.scheduler.proofs.Subpools.{each-fits}
 use Rattle.scheduler.specs.Fits.{PoolFits, PoolsFit, SlotFits, SlotsFit}
-use Rattle.store.proofs.Bounds.{bounds, sized-fits}
-use Rattle.store.proofs.Find.{slot-free, slot-taken}
-use Rattle.store.proofs.Lists.{part-length}
-use Rattle.store.proofs.Wrote.{within}
-use Rattle.store.specs.Judge.{Sized, Sound, poolOkAt, setupOk}
-use Rattle.store.specs.Layout.{allBytes, allRows, bytesBefore, rowsBefore, sizeAt, slotsAt}
-use Rattle.store.specs.Limits.{maxSlotSize, storeFree}
-use Rattle.store.specs.Pools.{Pool, Slot, free, taken}
-use Rattle.store.specs.View.{Leaves, bytesAt, bytesOf, each, lenAt, lenOf, lensOf, lensWith, marked, part, poolIn, rawOf, slotBytes, slotFrom, slotIn, slotLens, storeWith, view}
-use Rattle.store.specs.declared.Setup.{Setup}
+use Rattle.layout.proofs.Bounds.{bounds, sized-fits}
+use Rattle.slots.proofs.Find.{slot-free, slot-taken}
+use Rattle.slots.proofs.Lists.{part-length}
+use Rattle.lookup.proofs.Within.{within}
+use Rattle.layout.specs.Judge.{Sized, Sound, poolOkAt, setupOk}
+use Rattle.layout.specs.Layout.{allBytes, allRows, bytesBefore, rowsBefore, sizeAt, slotsAt}
+use Rattle.layout.specs.Limits.{maxSlotSize, storeFree}
+use Rattle.slots.specs.Pools.{Pool, Slot, free, taken}
+use Rattle.slots.specs.View.{Leaves, bytesAt, bytesOf, each, lenAt, lenOf, lensOf, lensWith, marked, part, poolIn, rawOf, slotBytes, slotFrom, slotIn, slotLens, storeWith, view}
+use Rattle.layout.specs.declared.Setup.{Setup}
 use Rattle.store_laws.proofs.Fitting.{AllFit, Fitting}
 use borrow.Author.Tests.{eqb-false, leb-true}
 use lib.Dec.{eqb}

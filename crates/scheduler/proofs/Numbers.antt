@@ -1,9 +1,12 @@
 -- The numbers that each call gives of its own, beside 1 to 3 that are judged first: from 4 to 20.
 use Prim.Native.Nat.{_≤_, ℕ}
-use Rattle.deletions.specs.Deleting.{clearIn, deleteByIdIn, deleteKeepingIn, deleteWindowIn, freed, resetIn, takeIn}
-use Rattle.deletions.specs.Windowing.{retrieveIn, windowed}
-use Rattle.deletions.specs.declared.Window.{Window}
-use Rattle.insertions.specs.Inserting.{activity, enter, entered, insertStoredIn, insertUnwrappedIn, insertWrappedIn, opened, stamped, timed}
+use Rattle.deletions.specs.Deleting.{clearIn, deleteWindowIn, resetIn}
+use Rattle.by_id.specs.ById.{deleteByIdIn, deleteKeepingIn, freed, takeIn}
+use Rattle.windows.specs.Windowing.{retrieveIn, windowed}
+use Rattle.windows.specs.declared.Window.{Window}
+use Rattle.insertions.specs.Inserting.{activity, entered, insertUnwrappedIn}
+use Rattle.gate.specs.Entering.{enter, insertStoredIn, timed}
+use Rattle.wrapped.specs.Wrapped.{insertWrappedIn, opened, stamped}
 use Rattle.packet.specs.Packet.{readOf, userDataOf}
 use Rattle.packet.specs.declared.Reading.the-variants.{Packet, Unreadable}
 use Rattle.packet.specs.declared.Reading.{Reading}
@@ -18,9 +21,10 @@ use Rattle.schedule.specs.declared.Setup.{Setup}
 use Rattle.stamp.specs.Stamp.{stampOf}
 use Rattle.stamp.specs.declared.Stamp.the-variants.{At, Refused}
 use Rattle.stamp.specs.declared.Stamp.{Stamp}
-use Rattle.store.specs.Calls.{addIn, deleteIn, hasIn, ifHeld, ifNamed, lenIn, packetIn, place, readIn}
-use Rattle.store.specs.Pools.{Choice, Found, Pool, allTaken, choose, find, held, into as inSlot, noPool, noSlot, tooLarge, vacant}
-use Rattle.table.specs.declared.TimeWindow.{TimeWindow}
+use Rattle.store.specs.Calls.{addIn, deleteIn, place}
+use Rattle.lookup.specs.Calls.{hasIn, ifHeld, ifNamed, lenIn, packetIn, readIn}
+use Rattle.slots.specs.Pools.{Choice, Found, Pool, allTaken, choose, find, held, into as inSlot, noPool, noSlot, tooLarge, vacant}
+use Rattle.selection.specs.declared.TimeWindow.{TimeWindow}
 use Rattle.tick.specs.Tick.{handedOut, tickIn}
 use Rattle.time.specs.declared.UnixTime.{UnixTime}
 use lib.ListN.{drop, length}

@@ -1,14 +1,16 @@
 -- A promise allows one outcome only: one answer, one record, and one content of every lent list.
 use Prim.Native.Nat.{ℕ}
-use Rattle.deletions.specs.Answers.{clearedPaper, freedPaper, retrievedPaper, takenPaper}
+use Rattle.deletions.specs.Answers.{clearedPaper}
+use Rattle.by_id.specs.Answers.{freedPaper, takenPaper}
+use Rattle.windows.specs.Answers.{retrievedPaper}
 use Rattle.deletions.specs.declared.ClearAnswer.the-variants as Cl
 use Rattle.deletions.specs.declared.ClearAnswer.{ClearAnswer}
-use Rattle.deletions.specs.declared.FreeAnswer.the-variants as F
-use Rattle.deletions.specs.declared.FreeAnswer.{FreeAnswer}
-use Rattle.deletions.specs.declared.Retrieved.the-variants as R
-use Rattle.deletions.specs.declared.Retrieved.{Retrieved}
-use Rattle.deletions.specs.declared.TakeAnswer.the-variants as Ta
-use Rattle.deletions.specs.declared.TakeAnswer.{TakeAnswer}
+use Rattle.by_id.specs.declared.FreeAnswer.the-variants as F
+use Rattle.by_id.specs.declared.FreeAnswer.{FreeAnswer}
+use Rattle.windows.specs.declared.Retrieved.the-variants as R
+use Rattle.windows.specs.declared.Retrieved.{Retrieved}
+use Rattle.by_id.specs.declared.TakeAnswer.the-variants as Ta
+use Rattle.by_id.specs.declared.TakeAnswer.{TakeAnswer}
 use Rattle.insertions.specs.Answers.{insertedPaper}
 use Rattle.insertions.specs.declared.InsertAnswer.the-variants as I
 use Rattle.insertions.specs.declared.InsertAnswer.{InsertAnswer}

@@ -1,13 +1,15 @@
 -- `paper` is one-to-one: number and values tell every refusal of the schedule, and every answer of its calls, apart.
-use Rattle.deletions.specs.Answers.{clearedPaper, freedPaper, retrievedPaper, takenPaper}
+use Rattle.deletions.specs.Answers.{clearedPaper}
+use Rattle.by_id.specs.Answers.{freedPaper, takenPaper}
+use Rattle.windows.specs.Answers.{retrievedPaper}
 use Rattle.deletions.specs.declared.ClearAnswer.the-variants as Cl
 use Rattle.deletions.specs.declared.ClearAnswer.{ClearAnswer}
-use Rattle.deletions.specs.declared.FreeAnswer.the-variants as F
-use Rattle.deletions.specs.declared.FreeAnswer.{FreeAnswer}
-use Rattle.deletions.specs.declared.Retrieved.the-variants as R
-use Rattle.deletions.specs.declared.Retrieved.{Retrieved}
-use Rattle.deletions.specs.declared.TakeAnswer.the-variants as Ta
-use Rattle.deletions.specs.declared.TakeAnswer.{TakeAnswer}
+use Rattle.by_id.specs.declared.FreeAnswer.the-variants as F
+use Rattle.by_id.specs.declared.FreeAnswer.{FreeAnswer}
+use Rattle.windows.specs.declared.Retrieved.the-variants as R
+use Rattle.windows.specs.declared.Retrieved.{Retrieved}
+use Rattle.by_id.specs.declared.TakeAnswer.the-variants as Ta
+use Rattle.by_id.specs.declared.TakeAnswer.{TakeAnswer}
 use Rattle.insertions.specs.Answers.{insertedPaper}
 use Rattle.insertions.specs.declared.InsertAnswer.the-variants as I
 use Rattle.insertions.specs.declared.InsertAnswer.{InsertAnswer}

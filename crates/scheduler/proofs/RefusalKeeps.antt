@@ -11,8 +11,8 @@ use Rattle.schedule.specs.State.{State, recordOf}
 use Rattle.schedule.specs.declared.Setup.{Setup}
 use Rattle.scheduler.specs.Laws.{Same}
 use Rattle.scheduler.specs.Steps.{count}
-use Rattle.store.specs.View.{lensWith, storeWith}
-use Rattle.table.specs.Entries.{relaid}
+use Rattle.slots.specs.View.{lensWith, storeWith}
+use Rattle.rows.specs.Entries.{relaid}
 use mathlib.Core.List.{List}
 use mathlib.Core.Path.{_∙_, _≡_, ap}
 

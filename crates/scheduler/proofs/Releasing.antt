@@ -17,16 +17,16 @@ use Rattle.scheduler.proofs.Subpools.{delete-fits}
 use Rattle.scheduler.specs.Fits.{Fits, Gives, PoolsFit}
 use Rattle.scheduler.specs.Laws.{Same, StepsAs}
 use Rattle.scheduler.specs.Steps.{step, tick, ticked}
-use Rattle.store.specs.Pools.{Pool}
-use Rattle.store.specs.declared.Setup.{Setup as StoreSetup}
-use Rattle.table.proofs.Order.{drop-ordered}
-use Rattle.table.specs.Entries.{Entry}
+use Rattle.slots.specs.Pools.{Pool}
+use Rattle.layout.specs.declared.Setup.{Setup as StoreSetup}
+use Rattle.rows.proofs.Order.{drop-ordered}
+use Rattle.rows.specs.Entries.{Entry}
 use Rattle.tick.specs.Promise.{Ticks, left}
 use Rattle.tick.specs.Tick.{Logged, handedOut, tickIn, usable}
 use Rattle.time.specs.Time.{instant}
-use Rattle.turns.proofs.Handing.{deleted-is}
-use Rattle.turns.specs.Parts.{afterAll}
-use Rattle.turns.specs.Turns.{Handout, always, handout, leave}
+use Rattle.store_laws.proofs.Wiped.{deleted-is}
+use Rattle.handing.specs.Handing.{afterAll}
+use Rattle.turn.specs.Turns.{Handout, always, handout, leave}
 use Rattle.turns_laws.proofs.Split.{splits}
 use lib.ListN.{drop, length, length-drop, take}
 use mathlib.Core.Bool.{Bool, false, true}

@@ -11,12 +11,12 @@ use Rattle.schedule.specs.State.{State, recordOf, stateOf}
 use Rattle.schedule.specs.declared.Setup.{Setup}
 use Rattle.scheduler.proofs.Laying.{fitting, leaves-laid, view-fits}
 use Rattle.scheduler.specs.Fits.{Fits, Gives}
-use Rattle.store.specs.Judge.{Sized}
-use Rattle.store.specs.View.{lensWith, storeWith}
+use Rattle.layout.specs.Judge.{Sized}
+use Rattle.slots.specs.View.{lensWith, storeWith}
 use Rattle.store_laws.proofs.Fitting.{sound-of}
-use Rattle.table.proofs.Rows.{length-relaid, length-unpack, unpack-relaid}
-use Rattle.table.specs.Entries.{relaid, width}
-use Rattle.table.specs.Order.{ordered}
+use Rattle.rows.proofs.Rows.{length-relaid, length-unpack, unpack-relaid}
+use Rattle.rows.specs.Entries.{relaid, width}
+use Rattle.rows.specs.Order.{ordered}
 use Rattle.time.specs.Time.{inRange, marginInRange}
 use borrow.Author.Tests.{le-leb, leb-true}
 use lib.ListN.{length}

@@ -18,7 +18,7 @@ use Rattle.scheduler.proofs.Releasing.{tick-gives}
 use Rattle.scheduler.proofs.Standing.{laid-sound, laid-state, outcome-sound, sound-fits}
 use Rattle.scheduler.specs.Fits.{AllOfBytes, Fits, Gives, OfBytes}
 use Rattle.scheduler.specs.Steps.{Request, add, carried, count, delete, deleteById, deleteKeeping, deleteWindow, disable, enable, hasElementAt, insertStored, insertUnwrapped, insertWrapped, lenOfData, looked, modify, read, reset, retrieve, run, setClock, step, tick, ticked}
-use Rattle.store.specs.Judge.{Sound as StoreSound}
+use Rattle.layout.specs.Judge.{Sound as StoreSound}
 use Rattle.tick.specs.Promise.{left}
 use Rattle.tick.specs.Tick.{Logged, tickIn}
 use Rattle.time.specs.Time.{inRange, marginInRange}

@@ -1,9 +1,12 @@
 -- A public call on a sound scheduler does what the step of its request says, and leaves the scheduler sound.
 use Prim.Native.Nat.{ℕ}
-use Rattle.deletions.specs.Deleting.{deleteByIdIn, deleteKeepingIn, deleteWindowIn, resetIn}
-use Rattle.deletions.specs.Windowing.{retrieveIn}
-use Rattle.deletions.specs.declared.Window.{Window}
-use Rattle.insertions.specs.Inserting.{insertStoredIn, insertUnwrappedIn, insertWrappedIn}
+use Rattle.deletions.specs.Deleting.{deleteWindowIn, resetIn}
+use Rattle.by_id.specs.ById.{deleteByIdIn, deleteKeepingIn}
+use Rattle.windows.specs.Windowing.{retrieveIn}
+use Rattle.windows.specs.declared.Window.{Window}
+use Rattle.insertions.specs.Inserting.{insertUnwrappedIn}
+use Rattle.gate.specs.Entering.{insertStoredIn}
+use Rattle.wrapped.specs.Wrapped.{insertWrappedIn}
 use Rattle.record.specs.Record.{clockIn, markIn, timesInRange, withClock, withMark}
 use Rattle.record.specs.declared.Record.{Record}
 use Rattle.rules.proofs.Order.{into-says}
@@ -22,15 +25,17 @@ use Rattle.scheduler.proofs.StaysSound.{call-stays, clock-stays, mark-s
 use Rattle.scheduler.specs.Fits.{Bytes, Fits, Gives}
 use Rattle.scheduler.specs.Laws.{StepsAs}
 use Rattle.scheduler.specs.Steps.{Request, add, carried, count, delete, deleteById, deleteKeeping, deleteWindow, disable, enable, hasElementAt, insertStored, insertUnwrapped, insertWrapped, lenOfData, looked, modify, ofPools, ofRecord, read, reset, retrieve, setClock, step, withRecord}
-use Rattle.store.proofs.Judging.{judging-fine as store-judging-fine}
-use Rattle.store.specs.Calls.{addIn, deleteIn, hasIn, ifHeld, ifNamed, judging as storeJudging, lenIn, packetIn, readIn}
-use Rattle.store.specs.Judge.{Sound as StoreSound}
-use Rattle.store.specs.Pools.{Pool, find, held}
-use Rattle.store.specs.Promise.{Reads, Writes as StoreWrites, startOf}
-use Rattle.store.specs.View.{Leaves, put, view}
+use Rattle.lookup.proofs.Judging.{judging-fine as store-judging-fine}
+use Rattle.store.specs.Calls.{addIn, deleteIn}
+use Rattle.lookup.specs.Calls.{hasIn, ifHeld, ifNamed, judging as storeJudging, lenIn, packetIn, readIn}
+use Rattle.layout.specs.Judge.{Sound as StoreSound}
+use Rattle.slots.specs.Pools.{Pool, find, held}
+use Rattle.store.specs.Promise.{Writes as StoreWrites}
+use Rattle.lookup.specs.Promise.{Reads, startOf}
+use Rattle.slots.specs.View.{Leaves, put, view}
 use Rattle.store_laws.proofs.Reached.{add-done, delete-done, modify-leaves}
 use Rattle.store_laws.proofs.StaysSound.{modify-stays, public-add-stays, public-delete-stays}
-use Rattle.table.specs.Entries.{unpack}
+use Rattle.rows.specs.Entries.{unpack}
 use Rattle.time.specs.Time.{inRange}
 use Rattle.time.specs.declared.UnixTime.{UnixTime}
 use lib.ListN.{length}

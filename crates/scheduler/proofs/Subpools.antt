@@ -4,13 +4,15 @@ use Prim.Native.Nat.{_+_, _<_, _≤_, suc, zero, ℕ}
 use Rattle.rules.specs.Papers.{after, done}
 use Rattle.scheduler.specs.Fits.{PoolFits, PoolsFit, SlotFits, SlotsFit}
 use Rattle.store.proofs.Chosen.{Open, choose-open, sizeIn}
-use Rattle.store.proofs.Lists.{over-length}
-use Rattle.store.specs.Address.{poolOf, slotOf}
-use Rattle.store.specs.Calls.{addIn, deleteIn, freshPool, freshPools, ifHeld, ifNamed, place}
-use Rattle.store.specs.Layout.{sizeAt, slotsAt}
-use Rattle.store.specs.Pools.{Choice, Found, Pool, Slot, allTaken, choose, edit, editAt, editSlot, fill, find, free, held, into, noPool, noSlot, rewrite, taken, tooLarge, vacant, wipe}
-use Rattle.store.specs.View.{each}
-use Rattle.store.specs.declared.Setup.{Setup}
+use Rattle.slots.proofs.Lists.{over-length}
+use Rattle.address.specs.Address.{poolOf, slotOf}
+use Rattle.store.specs.Calls.{addIn, deleteIn, freshPool, freshPools, place}
+use Rattle.lookup.specs.Calls.{ifHeld, ifNamed}
+use Rattle.layout.specs.Layout.{sizeAt, slotsAt}
+use Rattle.slots.specs.Pools.{Choice, Found, Pool, Slot, allTaken, choose, find, free, held, into, noPool, noSlot, taken, tooLarge, vacant}
+use Rattle.store.specs.Edits.{edit, editAt, editSlot, fill, rewrite, wipe}
+use Rattle.slots.specs.View.{each}
+use Rattle.layout.specs.declared.Setup.{Setup}
 use lib.ListN.{length, length-replicate, length-take, replicate, take}
 use mathlib.Core.Bool.{Bool}
 use mathlib.Core.List.{List, [], _∷_}

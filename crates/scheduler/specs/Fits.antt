@@ -4,10 +4,10 @@ use Rattle.rules.specs.Papers.{Outcome, done, refused}
 use Rattle.schedule.specs.State.{State}
 use Rattle.schedule.specs.declared.Setup.{Setup}
 use Rattle.scheduler.specs.Steps.{Request, insertWrapped}
-use Rattle.store.specs.Layout.{sizeAt, slotsAt}
-use Rattle.store.specs.Pools.{Pool, Slot, free, taken}
-use Rattle.store.specs.declared.Setup.{Setup as StoreSetup}
-use Rattle.table.specs.Order.{ordered}
+use Rattle.layout.specs.Layout.{sizeAt, slotsAt}
+use Rattle.slots.specs.Pools.{Pool, Slot, free, taken}
+use Rattle.layout.specs.declared.Setup.{Setup as StoreSetup}
+use Rattle.rows.specs.Order.{ordered}
 use Rattle.time.specs.Time.{inRange, marginInRange}
 use lib.ListN.{getD, length}
 use mathlib.Core.Bool.{true}

@@ -2,18 +2,23 @@
 use Prim.Native.Nat.{ℕ}
 use mathlib.Core.Bool.{Bool, false, true}
 use mathlib.Core.List.{List, [], _∷_}
-use Rattle.deletions.specs.Deleting.{deleteByIdIn, deleteKeepingIn, deleteWindowIn, resetIn}
-use Rattle.deletions.specs.Windowing.{retrieveIn}
-use Rattle.deletions.specs.declared.Window.{Window}
-use Rattle.insertions.specs.Inserting.{insertStoredIn, insertUnwrappedIn, insertWrappedIn}
+use Rattle.deletions.specs.Deleting.{deleteWindowIn, resetIn}
+use Rattle.by_id.specs.ById.{deleteByIdIn, deleteKeepingIn}
+use Rattle.windows.specs.Windowing.{retrieveIn}
+use Rattle.windows.specs.declared.Window.{Window}
+use Rattle.insertions.specs.Inserting.{insertUnwrappedIn}
+use Rattle.gate.specs.Entering.{insertStoredIn}
+use Rattle.wrapped.specs.Wrapped.{insertWrappedIn}
 use Rattle.record.specs.Record.{clockIn, markIn}
 use Rattle.record.specs.declared.Record.{Record}
 use Rattle.rules.specs.Papers.{Outcome, Paper, after, into, says}
 use Rattle.schedule.specs.Counting.{countIn}
 use Rattle.schedule.specs.State.{State, recordOf, withPools}
 use Rattle.schedule.specs.declared.Setup.{Setup}
-use Rattle.store.specs.Calls.{addIn, deleteIn, hasIn, lenIn, packetIn, readIn}
-use Rattle.store.specs.Pools.{Pool, edit, rewrite}
+use Rattle.store.specs.Calls.{addIn, deleteIn}
+use Rattle.lookup.specs.Calls.{hasIn, lenIn, packetIn, readIn}
+use Rattle.slots.specs.Pools.{Pool}
+use Rattle.store.specs.Edits.{edit, rewrite}
 use Rattle.tick.specs.Tick.{Logged, tickIn}
 use Rattle.time.specs.declared.UnixTime.{UnixTime}
 

@@ -1,15 +1,15 @@
 // Answers of the schedule as words: document 01's number, the name, the values.
 use crate::refusals;
+use by_id::FreeAnswer;
+use by_id::TakeAnswer;
 use deletions::ClearAnswer;
-use deletions::FreeAnswer;
 use deletions::Last;
-use deletions::Retrieved;
-use deletions::TakeAnswer;
 use insertions::InsertAnswer;
 use record::Done;
 use schedule::Counted;
 use text::out;
 use tick::TickAnswer;
+use windows::Retrieved;
 
 pub fn done(a: Done) {
     match a {

@@ -1,7 +1,7 @@
 // Refusals as words: document 01's number, the name, the values.
 use record::ScheduleRefusal;
-use store::StoreIdError;
-use store::StoreRefusal;
+use slots::StoreIdError;
+use slots::StoreRefusal;
 use text::line;
 use text::out;
 use time::Margin;

@@ -1,9 +1,9 @@
 // Answers of the store as words: document 01's number, the name, the values.
 use crate::refusals;
+use lookup::Length;
+use lookup::Presence;
 use store::Added;
 use store::Deleted;
-use store::Length;
-use store::Presence;
 use store::Started;
 use store::Verdict;
 use text::out;

@@ -5,7 +5,7 @@ use Rattle.record.specs.declared.Record.{Record}
 use Rattle.rules.proofs.Order.{into-says, refusal-keeps}
 use Rattle.rules.specs.Papers.{Outcome, says}
 use Rattle.schedule.specs.State.{State}
-use Rattle.store.specs.Pools.{Pool}
+use Rattle.slots.specs.Pools.{Pool}
 use Rattle.silotwist.specs.Face.{Answers}
 use Rattle.silotwist.specs.RecordFace.{RecordFaces}
 use Rattle.silotwist.specs.ScheduleFace.{ScheduleFaces}

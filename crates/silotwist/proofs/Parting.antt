@@ -2,18 +2,18 @@
 -- Assumes nothing.
 use Prim.Native.Nat.{ℕ}
 use Rattle.rules.specs.Papers.{Outcome, Paper, done, no, refused, says}
-use Rattle.store.proofs.Judging.{judging-fine}
-use Rattle.store.specs.Calls.{ifHeld, ifNamed, judging, packetIn}
-use Rattle.store.specs.Judge.{Sound}
-use Rattle.store.specs.Pools.{Found, find, held, noPool, noSlot, vacant}
-use Rattle.store.specs.Promise.{Finds, foundAs, startOf}
-use Rattle.store.specs.Refusals.{paper}
-use Rattle.store.specs.View.{view}
-use Rattle.store.specs.declared.Setup.{Setup}
-use Rattle.store.specs.declared.Span.{Span}
-use Rattle.store.specs.declared.StoreRefusal.{StoreRefusal}
-use Rattle.store.specs.declared.Whereabouts.{Whereabouts}
-use Rattle.store.specs.declared.Whereabouts.the-variants as W
+use Rattle.lookup.proofs.Judging.{judging-fine}
+use Rattle.lookup.specs.Calls.{ifHeld, ifNamed, judging, packetIn}
+use Rattle.layout.specs.Judge.{Sound}
+use Rattle.slots.specs.Pools.{Found, find, held, noPool, noSlot, vacant}
+use Rattle.lookup.specs.Promise.{Finds, foundAs, startOf}
+use Rattle.lookup.specs.Refusals.{paper}
+use Rattle.slots.specs.View.{view}
+use Rattle.layout.specs.declared.Setup.{Setup}
+use Rattle.lookup.specs.declared.Span.{Span}
+use Rattle.slots.specs.declared.StoreRefusal.{StoreRefusal}
+use Rattle.lookup.specs.declared.Whereabouts.{Whereabouts}
+use Rattle.lookup.specs.declared.Whereabouts.the-variants as W
 use Rattle.face_words.proofs.Told.{two-is}
 use Rattle.face_words.specs.Inside.{wordsOf}
 use Rattle.silotwist.specs.StoreFace.{partIn}

@@ -11,8 +11,8 @@ use Rattle.schedule.specs.Promise.{Writes}
 use Rattle.schedule.specs.Starting.{Starts, freshState, startIn}
 use Rattle.schedule.specs.State.{State, recordOf}
 use Rattle.schedule.specs.declared.Setup.{Setup}
-use Rattle.store.specs.Refusals.{bit}
-use Rattle.table.specs.Entries.{relaid}
+use Rattle.lookup.specs.Refusals.{bit}
+use Rattle.rows.specs.Entries.{relaid}
 use Rattle.time.specs.Time.{inRange, marginInRange}
 use Rattle.time.specs.declared.Margin.{Margin}
 use Rattle.time.specs.declared.UnixTime.{UnixTime}

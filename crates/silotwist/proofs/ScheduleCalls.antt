@@ -10,10 +10,10 @@ use Rattle.schedule.specs.Judge.{buffersOk, judging, setupOk, stateOk}
 use Rattle.schedule.specs.Promise.{Writes}
 use Rattle.schedule.specs.State.{State, recordOf}
 use Rattle.schedule.specs.declared.Setup.{Setup}
-use Rattle.store.specs.Judge.{lensOk, setupOk as storeSetupOk}
-use Rattle.store.specs.View.{lensWith, storeWith}
-use Rattle.table.specs.Entries.{relaid, unpack}
-use Rattle.table.specs.Order.{ordered}
+use Rattle.layout.specs.Judge.{lensOk, setupOk as storeSetupOk}
+use Rattle.slots.specs.View.{lensWith, storeWith}
+use Rattle.rows.specs.Entries.{relaid, unpack}
+use Rattle.rows.specs.Order.{ordered}
 use Rattle.silotwist.proofs.Answering.{answers, answers-short, roomy, short}
 use Rattle.face_words.proofs.Written.{set-same}
 use Rattle.silotwist.specs.Face.{Answers}

@@ -4,11 +4,12 @@ use Prim.Native.Nat.{_<_, _≤_, ℕ}
 use Rattle.rules.proofs.All.{and-left}
 use Rattle.rules.specs.Papers.{Outcome, Paper, after, judgedBy, no, refused, says}
 use Rattle.rules.specs.Tests.{unless}
-use Rattle.store.specs.Calls.{judging}
-use Rattle.store.specs.Judge.{judged, setupOk}
-use Rattle.store.specs.Pools.{Pool}
-use Rattle.store.specs.Promise.{Reads, Writes}
-use Rattle.store.specs.declared.Setup.{Setup}
+use Rattle.lookup.specs.Calls.{judging}
+use Rattle.layout.specs.Judge.{judged, setupOk}
+use Rattle.slots.specs.Pools.{Pool}
+use Rattle.store.specs.Promise.{Writes}
+use Rattle.lookup.specs.Promise.{Reads}
+use Rattle.layout.specs.declared.Setup.{Setup}
 use Rattle.silotwist.proofs.Answering.{answers, answers-short, roomy, short}
 use Rattle.silotwist.specs.Face.{Answers, answering}
 use Rattle.face_reading.specs.Inside.{ReadsStore, fine}

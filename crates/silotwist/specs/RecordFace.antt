@@ -4,7 +4,7 @@ use Rattle.record.specs.Refusals.{wordOf}
 use Rattle.record.specs.declared.Record.{Record}
 use Rattle.rules.specs.Papers.{Outcome, after, no, refused}
 use Rattle.rules.specs.Tests.{unless}
-use Rattle.store.specs.Refusals.{bit}
+use Rattle.lookup.specs.Refusals.{bit}
 use lib.Dec.{leb}
 use lib.ListN.{length, set}
 use mathlib.Core.Bool.{Bool}

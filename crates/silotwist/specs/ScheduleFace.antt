@@ -7,9 +7,9 @@ use Rattle.rules.specs.Tests.{unless}
 use Rattle.schedule.specs.Judge.{judging, setupOk}
 use Rattle.schedule.specs.State.{State}
 use Rattle.schedule.specs.declared.Setup.{Setup}
-use Rattle.store.specs.Refusals.{bit}
-use Rattle.store.specs.View.{lensWith, storeWith}
-use Rattle.table.specs.Entries.{relaid}
+use Rattle.lookup.specs.Refusals.{bit}
+use Rattle.slots.specs.View.{lensWith, storeWith}
+use Rattle.rows.specs.Entries.{relaid}
 use lib.ListN.{drop, length, set}
 use mathlib.Core.List.{List, [], _++_, _∷_}
 use mathlib.Core.Path.{_≡_}

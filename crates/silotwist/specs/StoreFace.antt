@@ -2,11 +2,11 @@
 use Prim.Native.Nat.{ℕ}
 use Rattle.rules.specs.Papers.{Outcome, after, done, no, refused}
 use Rattle.rules.specs.Tests.{unless}
-use Rattle.store.specs.Calls.{ifHeld, judging}
-use Rattle.store.specs.Pools.{Pool, find}
-use Rattle.store.specs.Promise.{startOf}
-use Rattle.store.specs.View.{lensWith, storeWith}
-use Rattle.store.specs.declared.Setup.{Setup}
+use Rattle.lookup.specs.Calls.{ifHeld, judging}
+use Rattle.slots.specs.Pools.{Pool, find}
+use Rattle.lookup.specs.Promise.{startOf}
+use Rattle.slots.specs.View.{lensWith, storeWith}
+use Rattle.layout.specs.declared.Setup.{Setup}
 use mathlib.Core.List.{List, [], _∷_}
 use mathlib.Core.Path.{_≡_}
 use Rattle.silotwist.specs.Face.{Answers, answering}

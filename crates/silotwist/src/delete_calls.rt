@@ -1,7 +1,8 @@
 // The deletions by window and by request ID.
 use face_words::telling;
 use face_words::writing;
-ghost use Rattle.deletions.specs.Deleting.{deleteByIdIn, deleteKeepingIn, deleteWindowIn};
+ghost use Rattle.deletions.specs.Deleting.{deleteWindowIn};
+ghost use Rattle.by_id.specs.ById.{deleteByIdIn, deleteKeepingIn};
 ghost use Rattle.face_reading.specs.Reading.{windowFrom, word};
 ghost use Rattle.silotwist.specs.ScheduleFace.{ScheduleFaces, countWritten, judgedCall};
 
@@ -39,7 +40,7 @@ pub extern "C" fn silotwist_delete_window(
     let from = face_reading::time(from_secs, from_nanos);
     let to = face_reading::time(to_secs, to_nanos);
     let v = face_reading::window(has_from, from, has_to, to);
-    let c = deletions::delete_by_time_filter(su, r, store, lens, rows, v);
+    let c = schedule_public::delete_by_time_filter(su, r, store, lens, rows, v);
     let next = c.next;
     let a = c.answer;
     let w = schedule_answers::cleared(a);
@@ -72,7 +73,7 @@ pub extern "C" fn silotwist_delete_by_id_keep(
         return telling::put(answer, schedule_answers::short_record(su));
     }
     let r = face_reading::record(record);
-    let c = deletions::delete_by_request_id(su, r, store, lens, rows, request_id);
+    let c = schedule_public::delete_by_request_id(su, r, store, lens, rows, request_id);
     let next = c.next;
     let a = c.answer;
     let w = schedule_answers::taken(a);
@@ -105,7 +106,14 @@ pub extern "C" fn silotwist_delete_by_id(
         return telling::put(answer, schedule_answers::short_record(su));
     }
     let r = face_reading::record(record);
-    let c = deletions::delete_by_request_id_and_from_pool(su, r, store, lens, rows, request_id);
+    let c = schedule_public::delete_by_request_id_and_from_pool(
+        su,
+        r,
+        store,
+        lens,
+        rows,
+        request_id,
+    );
     let next = c.next;
     let a = c.answer;
     let w = schedule_answers::freed(a);

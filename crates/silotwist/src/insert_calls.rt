@@ -2,7 +2,9 @@
 use face_words::telling;
 use face_words::writing;
 ghost use Rattle.face_reading.specs.Reading.{word};
-ghost use Rattle.insertions.specs.Inserting.{insertStoredIn, insertUnwrappedIn, insertWrappedIn};
+ghost use Rattle.insertions.specs.Inserting.{insertUnwrappedIn};
+ghost use Rattle.gate.specs.Entering.{insertStoredIn};
+ghost use Rattle.wrapped.specs.Wrapped.{insertWrappedIn};
 ghost use Rattle.silotwist.specs.ScheduleFace.{ScheduleFaces, countWritten, judgedCall};
 
 #[no_mangle]
@@ -30,7 +32,7 @@ pub extern "C" fn silotwist_insert_wrapped(
         return telling::put(answer, schedule_answers::short_record(su));
     }
     let r = face_reading::record(record);
-    let c = insertions::insert_wrapped_tc(su, r, store, lens, rows, packet);
+    let c = schedule_public::insert_wrapped_tc(su, r, store, lens, rows, packet);
     let next = c.next;
     let a = c.answer;
     let w = schedule_answers::inserted(a);
@@ -66,7 +68,7 @@ pub extern "C" fn silotwist_insert_unwrapped(
     }
     let r = face_reading::record(record);
     let t = face_reading::time(secs, nanos);
-    let c = insertions::insert_unwrapped_tc(su, r, store, lens, rows, t, packet);
+    let c = schedule_public::insert_unwrapped_tc(su, r, store, lens, rows, t, packet);
     let next = c.next;
     let a = c.answer;
     let w = schedule_answers::inserted(a);
@@ -103,7 +105,7 @@ pub extern "C" fn silotwist_insert_stored(
     }
     let r = face_reading::record(record);
     let t = face_reading::time(secs, nanos);
-    let c = insertions::insert_unwrapped_and_stored_tc(
+    let c = schedule_public::insert_unwrapped_and_stored_tc(
         su,
         r,
         store,

@@ -4,7 +4,7 @@ use face_words::writing;
 use time::Margin;
 ghost use lib.ListN.{length};
 ghost use Rattle.deletions.specs.Deleting.{resetIn};
-ghost use Rattle.deletions.specs.Windowing.{retrieveIn};
+ghost use Rattle.windows.specs.Windowing.{retrieveIn};
 ghost use Rattle.face_reading.specs.Reading.{windowFrom, word};
 ghost use Rattle.schedule.specs.Counting.{countIn};
 ghost use Rattle.schedule.specs.Starting.{startIn};
@@ -70,7 +70,7 @@ pub extern "C" fn silotwist_window(
     let from = face_reading::time(from_secs, from_nanos);
     let to = face_reading::time(to_secs, to_nanos);
     let v = face_reading::window(has_from, from, has_to, to);
-    let a = deletions::retrieve_by_time_filter(su, r, store, lens, rows, v);
+    let a = schedule_public::retrieve_by_time_filter(su, r, store, lens, rows, v);
     let w = schedule_answers::retrieved(a);
     telling::put(answer, w)
 }
@@ -99,7 +99,7 @@ pub extern "C" fn silotwist_reset(
         return telling::put(answer, schedule_answers::short_record(su));
     }
     let r = face_reading::record(record);
-    let c = deletions::reset(su, r, store, lens, rows);
+    let c = schedule_public::reset(su, r, store, lens, rows);
     let next = c.next;
     let a = c.answer;
     let w = schedule_answers::cleared(a);

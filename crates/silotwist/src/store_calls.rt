@@ -1,11 +1,12 @@
 // The store's calls.
 use face_words::Words;
 use face_words::telling;
-use store::Setup;
+use layout::Setup;
+use lookup::Whereabouts;
 use store::Verdict;
-use store::Whereabouts;
 ghost use mathlib.Core.Path.{_≡_};
-ghost use Rattle.store.specs.Calls.{addIn, deleteIn, hasIn, judging, lenIn, packetIn, readIn};
+ghost use Rattle.store.specs.Calls.{addIn, deleteIn};
+ghost use Rattle.lookup.specs.Calls.{hasIn, judging, lenIn, packetIn, readIn};
 ghost use Rattle.silotwist.specs.Face.{Answers};
 ghost use Rattle.rules.specs.Papers.{says};
 ghost use Rattle.face_words.specs.Inside.{wordsOf};
@@ -28,7 +29,7 @@ pub extern "C" fn silotwist_store_add(
         return 2;
     }
     let su = face_reading::store_setup(setup);
-    let a = store::add(su, store, lens, data);
+    let a = store_public::add(su, store, lens, data);
     let w = store_answers::added(a);
     telling::put(answer, w)
 }
@@ -51,7 +52,7 @@ pub extern "C" fn silotwist_store_read(
         return 2;
     }
     let su = face_reading::store_setup(setup);
-    let a = store::read(su, store, lens, address, buffer);
+    let a = store_public::read(su, store, lens, address, buffer);
     let w = store_answers::length(a);
     telling::put(answer, w)
 }
@@ -72,7 +73,7 @@ pub extern "C" fn silotwist_store_modify(
         return 2;
     }
     let su = face_reading::store_setup(setup);
-    let a = store::modify(su, store, lens, address);
+    let a = store_public::modify(su, store, lens, address);
     let w = store_answers::length(a);
     telling::put(answer, w)
 }
@@ -101,11 +102,11 @@ pub extern "C" fn silotwist_store_part(
 fn part(setup: Setup, store: &[u8], lens: &[u16], address: u64) -> Words
     ensures { λ r. ⌜ r ≡ wordsOf (says (judging setup (now (store .entry)) (now (lens .entry)) (partIn address setup))) ⌝ }
 {
-    let j = store::judge(setup, store.len(), lens);
+    let j = store_public::judge(setup, store.len(), lens);
     match j {
         Verdict::Refused(e) => store_answers::store_refusal(e),
         Verdict::Fine => {
-            let f = store::judged::find(setup, store, lens, address);
+            let f = lookup::find(setup, store, lens, address);
             match f {
                 Whereabouts::Refused(e) => store_answers::store_refusal(e),
                 Whereabouts::At(s) => face_words::two(
@@ -134,7 +135,7 @@ pub extern "C" fn silotwist_store_delete(
         return 2;
     }
     let su = face_reading::store_setup(setup);
-    let a = store::delete(su, store, lens, address);
+    let a = store_public::delete(su, store, lens, address);
     let w = store_answers::deleted(a);
     telling::put(answer, w)
 }
@@ -155,7 +156,7 @@ pub extern "C" fn silotwist_store_has(
         return 2;
     }
     let su = face_reading::store_setup(setup);
-    let a = store::has_element_at(su, store, lens, address);
+    let a = store_public::has_element_at(su, store, lens, address);
     let w = store_answers::presence(a);
     telling::put(answer, w)
 }
@@ -176,7 +177,7 @@ pub extern "C" fn silotwist_store_len(
         return 2;
     }
     let su = face_reading::store_setup(setup);
-    let a = store::len_of_data(su, store, lens, address);
+    let a = store_public::len_of_data(su, store, lens, address);
     let w = store_answers::length(a);
     telling::put(answer, w)
 }

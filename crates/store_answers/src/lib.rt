@@ -5,11 +5,12 @@ use face_words::one;
 use face_words::two;
 use face_words::wide;
 use face_words::wide16;
-use store::StoreIdError;
-use store::StoreRefusal;
+use slots::StoreIdError;
+use slots::StoreRefusal;
 ghost use mathlib.Core.Path.{_≡_};
 ghost use Rattle.face_words.specs.Inside.{wordsOf};
-ghost use Rattle.store.specs.Refusals.{addedPaper, badPaper, deletedPaper, lengthPaper, paper, presencePaper};
+ghost use Rattle.store.specs.Refusals.{addedPaper, deletedPaper};
+ghost use Rattle.lookup.specs.Refusals.{badPaper, lengthPaper, paper, presencePaper};
 
 fn bad_address(e: StoreIdError) -> Words
     ensures { λ r. ⌜ r ≡ wordsOf (badPaper e) ⌝ }
@@ -44,26 +45,26 @@ pub fn added(a: store::Added) -> Words
     }
 }
 
-pub fn length(a: store::Length) -> Words
+pub fn length(a: lookup::Length) -> Words
     ensures { λ r. ⌜ r ≡ wordsOf (lengthPaper a) ⌝ }
 {
     match a {
-        store::Length::Of(n) => one(0, wide(n)),
-        store::Length::Refused(e) => store_refusal(e),
+        lookup::Length::Of(n) => one(0, wide(n)),
+        lookup::Length::Refused(e) => store_refusal(e),
     }
 }
 
-pub fn presence(a: store::Presence) -> Words
+pub fn presence(a: lookup::Presence) -> Words
     ensures { λ r. ⌜ r ≡ wordsOf (presencePaper a) ⌝ }
 {
     match a {
-        store::Presence::Is(b) => {
+        lookup::Presence::Is(b) => {
             if b {
                 return one(0, 1);
             }
             one(0, 0)
         }
-        store::Presence::Refused(e) => store_refusal(e),
+        lookup::Presence::Refused(e) => store_refusal(e),
     }
 }
 

@@ -1,6 +1,6 @@
 // What a call is given: the setup, and how much of the store and of the lengths is lent.
 use crate::command;
-use store::Setup;
+use layout::Setup;
 use text::line;
 
 pub struct Bench {

@@ -1,7 +1,7 @@
 // Lines that change what is lent: the store's own calls, and damage.
 use crate::command;
+use layout::Setup;
 use store::Added;
-use store::Setup;
 use text::line;
 use text::out;
 ghost use Prim.Native.Nat.{_≤_};
@@ -55,9 +55,9 @@ fn damage(k: usize, text: &[u8], store: &mut [u8], lens: &mut [u16], buf: &mut [
 // A fresh start, and the judge.
 fn start(setup: Setup, store: &mut [u8], lens: &mut [u16]) {
     out::say(b": fresh ");
-    shown::started(store::fresh(setup, store, lens));
+    shown::started(store_public::fresh(setup, store, lens));
     out::say(b", judge ");
-    shown::verdict(store::judge(setup, store.len(), lens));
+    shown::verdict(store_public::judge(setup, store.len(), lens));
 }
 
 // A packet of given bytes; or of a number of bytes, all of one value.
@@ -66,7 +66,7 @@ fn add(setup: Setup, text: &[u8], store: &mut [u8], lens: &mut [u16]) {
     if line::which(text, 1, b"bytes") == 0 {
         let mut packet = [0u8; 64];
         let n = line::bytes(text, 2, &mut packet);
-        shown::added(store::add(setup, store, lens, &packet[..n]));
+        shown::added(store_public::add(setup, store, lens, &packet[..n]));
         return;
     }
     shown::added(put(
@@ -82,7 +82,7 @@ fn put(setup: Setup, store: &mut [u8], lens: &mut [u16], n: usize, v: u8) -> Add
     requires { ⌜ n ≤ 4096 ⌝ }
 {
     let packet = [v; 4096];
-    store::add(setup, store, lens, &packet[0..n])
+    store_public::add(setup, store, lens, &packet[0..n])
 }
 
 // A number of such packets.
@@ -98,15 +98,15 @@ fn fill(setup: Setup, text: &[u8], store: &mut [u8], lens: &mut [u16]) {
 
 fn delete(setup: Setup, text: &[u8], store: &mut [u8], lens: &mut [u16]) {
     out::say(b": ");
-    shown::deleted(store::delete(setup, store, lens, line::number(text, 1)));
+    shown::deleted(store_public::delete(setup, store, lens, line::number(text, 1)));
 }
 
 // The part that is lent for changes gets bytes 5.
 fn modify(setup: Setup, text: &[u8], store: &mut [u8], lens: &[u16]) {
     let addr = line::number(text, 1);
     out::say(b": ");
-    shown::length(store::modify(setup, store, lens, addr));
-    let part = store::modify_part(setup, store, lens, addr);
+    shown::length(store_public::modify(setup, store, lens, addr));
+    let part = store_public::modify_part(setup, store, lens, addr);
     out::number(b", lent ", part.len() as u64);
     set(5, part);
 }

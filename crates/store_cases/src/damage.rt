@@ -1,5 +1,5 @@
 // All lengths that the first slot can be given.
-use store::Setup;
+use layout::Setup;
 use store::Verdict;
 ghost use Prim.Native.Nat.{_≤_};
 
@@ -15,7 +15,7 @@ fn one_if_fine(v: Verdict) -> u64
 fn one_length(setup: Setup, n: u16) -> u64
     ensures { λ r. ⌜ r ≤ 1 ⌝ }
 {
-    one_if_fine(store::judge(setup, 64, &[n, 65535, 65535]))
+    one_if_fine(store_public::judge(setup, 64, &[n, 65535, 65535]))
 }
 
 // How many of the lengths 0 to 65535 the first slot may be given, of three rows over 64 bytes.

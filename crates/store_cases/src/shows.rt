@@ -1,8 +1,8 @@
 // Lines that ask: the store's own questions, addresses, and what is lent.
 use crate::command;
 use crate::damage;
-use store::Setup;
-use store::StaticPoolAddr;
+use address::StaticPoolAddr;
+use layout::Setup;
 use text::line;
 use text::out;
 
@@ -13,7 +13,7 @@ pub fn run(setup: Setup, k: usize, text: &[u8], store: &[u8], lens: &[u16], buf:
     }
     if k == command::JUDGE {
         out::say(b": ");
-        shown::verdict(store::judge(setup, store.len(), lens));
+        shown::verdict(store_public::judge(setup, store.len(), lens));
         return;
     }
     if k == command::ADDRESS {
@@ -44,7 +44,7 @@ fn address(k: usize, text: &[u8]) {
 fn read(setup: Setup, text: &[u8], store: &[u8], lens: &[u16], buf: &mut [u8]) {
     let n = line::part(text, 3, buf.len());
     out::say(b": ");
-    shown::length(store::read(setup, store, lens, line::number(text, 1), &mut buf[0..n]));
+    shown::length(store_public::read(setup, store, lens, line::number(text, 1), &mut buf[0..n]));
 }
 
 fn addr(text: &[u8]) -> u64 {
@@ -58,13 +58,13 @@ fn addr(text: &[u8]) -> u64 {
 fn about(setup: Setup, addr: u64, store: &[u8], lens: &[u16]) {
     let mut own = [0u8; 64];
     out::say(b": has ");
-    shown::presence(store::has_element_at(setup, store, lens, addr));
+    shown::presence(store_public::has_element_at(setup, store, lens, addr));
     out::say(b", len ");
-    shown::length(store::len_of_data(setup, store, lens, addr));
+    shown::length(store_public::len_of_data(setup, store, lens, addr));
     out::say(b", modify ");
-    shown::length(store::modify(setup, store, lens, addr));
+    shown::length(store_public::modify(setup, store, lens, addr));
     out::say(b", read ");
-    shown::length(store::read(setup, store, lens, addr, &mut own));
+    shown::length(store_public::read(setup, store, lens, addr, &mut own));
 }
 
 fn encode(pool: u16, slot: u16) {

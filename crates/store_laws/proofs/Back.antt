@@ -1,15 +1,16 @@
 -- Each answer, found again from its number and values.
 use Prim.Native.Nat.{ℕ}
 use Rattle.rules.specs.Papers.{Paper}
-use Rattle.store.proofs.Numbers.{numbered}
-use Rattle.store.specs.Refusals.{addedPaper, deletedPaper, lengthPaper, paper, presencePaper, startedPaper, verdictPaper}
+use Rattle.lookup.proofs.Numbers.{numbered}
+use Rattle.store.specs.Refusals.{addedPaper, deletedPaper, startedPaper, verdictPaper}
+use Rattle.lookup.specs.Refusals.{lengthPaper, paper, presencePaper}
 use lib.Dec.{eqb}
 use lib.ListN.{getD}
 use mathlib.Core.Bool.{cond, false, true}
 use mathlib.Core.Path.{_≡_, refl}
-use Rattle.store.specs.declared.StoreRefusal.{StoreRefusal}
-use Rattle.store.specs.declared.StoreRefusal.the-variants.{BadSetup, BadBuffers, StateDamaged, DataTooLarge, StoreFull, InvalidStoreId, DataDoesNotExist, BufferTooSmall}
-use Rattle.store.specs.declared.StoreIdError.the-variants.{InvalidSubpool, InvalidPacketIdx}
+use Rattle.slots.specs.declared.StoreRefusal.{StoreRefusal}
+use Rattle.slots.specs.declared.StoreRefusal.the-variants.{BadSetup, BadBuffers, StateDamaged, DataTooLarge, StoreFull, InvalidStoreId, DataDoesNotExist, BufferTooSmall}
+use Rattle.slots.specs.declared.StoreIdError.the-variants.{InvalidSubpool, InvalidPacketIdx}
 use Rattle.store.specs.declared.Deleted.{Deleted}
 use Rattle.store.specs.declared.Deleted.the-variants as D
 use Rattle.store.specs.declared.Verdict.{Verdict}
@@ -18,10 +19,10 @@ use Rattle.store.specs.declared.Started.{Started}
 use Rattle.store.specs.declared.Started.the-variants as St
 use Rattle.store.specs.declared.Added.{Added}
 use Rattle.store.specs.declared.Added.the-variants as Ad
-use Rattle.store.specs.declared.Length.{Length}
-use Rattle.store.specs.declared.Length.the-variants as Le
-use Rattle.store.specs.declared.Presence.{Presence}
-use Rattle.store.specs.declared.Presence.the-variants as Pr
+use Rattle.lookup.specs.declared.Length.{Length}
+use Rattle.lookup.specs.declared.Length.the-variants as Le
+use Rattle.lookup.specs.declared.Presence.{Presence}
+use Rattle.lookup.specs.declared.Presence.the-variants as Pr
 
 -- the refusal of a number and values
 refusalOf : ℕ → ℕ → ℕ → StoreRefusal

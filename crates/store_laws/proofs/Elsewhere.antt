@@ -2,9 +2,10 @@
 use Prim.Native.Nat.{suc, zero, ℕ}
 use Rattle.rules.specs.Papers.{Paper, after, no, says}
 use Rattle.store.proofs.Chosen.{Open}
-use Rattle.store.specs.Address.{addressOf}
+use Rattle.address.specs.Address.{addressOf}
 use Rattle.store.specs.Calls.{place}
-use Rattle.store.specs.Pools.{Choice, Found, Pool, Slot, allTaken, editAt, editSlot, fill, findAt, findSlot, free, held, into, seen, taken, tooLarge, vacant}
+use Rattle.slots.specs.Pools.{Choice, Found, Pool, Slot, allTaken, findAt, findSlot, free, held, into, seen, taken, tooLarge, vacant}
+use Rattle.store.specs.Edits.{editAt, editSlot, fill}
 use Rattle.store_laws.specs.Requests.{nthSlot, theSlot}
 use lib.ListN.{getD, length}
 use mathlib.Core.List.{List, [], _∷_}

@@ -2,16 +2,18 @@
 use Prim.Native.Nat.{_+_, _<_, _≤_, suc, zero, ℕ}
 use Rattle.rules.proofs.All.{all-of}
 use Rattle.rules.specs.Papers.{after, done}
-use Rattle.store.proofs.Bounds.{bounds}
+use Rattle.layout.proofs.Bounds.{bounds}
 use Rattle.store.proofs.Chosen.{Open, choose-open, sizeIn}
-use Rattle.store.proofs.Layouts.{len-free, len-small}
-use Rattle.store.specs.Address.{poolOf, slotOf}
-use Rattle.store.specs.Calls.{addIn, deleteIn, freshPool, freshPools, ifHeld, ifNamed, place}
-use Rattle.store.specs.Judge.{Sized, Sound, buffersOk, lenOk, lensOk, poolLensOk, rowOk}
-use Rattle.store.specs.Layout.{rowsBefore, sizeAt, slotsAt}
-use Rattle.store.specs.Limits.{storeFree}
-use Rattle.store.specs.Pools.{Choice, Found, Pool, Slot, allTaken, choose, edit, editAt, editSlot, fill, find, free, held, into, noPool, noSlot, rewrite, taken, tooLarge, vacant, wipe}
-use Rattle.store.specs.View.{Leaves, bytesAt, each, lenAt, marked, poolIn, slotFrom, slotIn, view}
+use Rattle.layout.proofs.Layouts.{len-free, len-small}
+use Rattle.address.specs.Address.{poolOf, slotOf}
+use Rattle.store.specs.Calls.{addIn, deleteIn, freshPool, freshPools, place}
+use Rattle.lookup.specs.Calls.{ifHeld, ifNamed}
+use Rattle.layout.specs.Judge.{Sized, Sound, buffersOk, lenOk, lensOk, poolLensOk, rowOk}
+use Rattle.layout.specs.Layout.{rowsBefore, sizeAt, slotsAt}
+use Rattle.layout.specs.Limits.{storeFree}
+use Rattle.slots.specs.Pools.{Choice, Found, Pool, Slot, allTaken, choose, find, free, held, into, noPool, noSlot, taken, tooLarge, vacant}
+use Rattle.store.specs.Edits.{edit, editAt, editSlot, fill, rewrite, wipe}
+use Rattle.slots.specs.View.{Leaves, bytesAt, each, lenAt, marked, poolIn, slotFrom, slotIn, view}
 use borrow.Author.Tests.{eqb-false, eqb-true}
 use lib.Dec.{eqb}
 use lib.ListN.{getD, length, replicate}
@@ -21,7 +23,7 @@ use mathlib.Core.Logic.{_⊎_, ⊎-elim}
 use mathlib.Core.Path.{_∙_, _≡_, ap₂, refl, subst, sym}
 use native.Mathlib.Nat.{not-suc-le-zero}
 use native.Mathlib.Omega.{arith}
-use Rattle.store.specs.declared.Setup.{Setup}
+use Rattle.layout.specs.declared.Setup.{Setup}
 
 -- a packet is no longer than its slot
 abbrev pub Fits : ℕ → Slot → Type 0

@@ -2,11 +2,13 @@
 use Prim.Native.Nat.{ℕ}
 use Rattle.rules.specs.Papers.{done}
 use Rattle.store.proofs.Chosen.{room-there}
-use Rattle.store.specs.Address.{addressOf, poolOf, slotOf}
-use Rattle.store.specs.Calls.{addIn, ifHeld, ifNamed, packetIn, place}
-use Rattle.store.specs.Judge.{Sound}
-use Rattle.store.specs.Pools.{Choice, Pool, Slot, allTaken, editAt, fill, find, free, held, into, over, taken, tooLarge}
-use Rattle.store.specs.View.{view}
+use Rattle.address.specs.Address.{addressOf, poolOf, slotOf}
+use Rattle.store.specs.Calls.{addIn, place}
+use Rattle.lookup.specs.Calls.{ifHeld, ifNamed, packetIn}
+use Rattle.layout.specs.Judge.{Sound}
+use Rattle.slots.specs.Pools.{Choice, Pool, Slot, allTaken, find, free, held, into, over, taken, tooLarge}
+use Rattle.store.specs.Edits.{editAt, fill}
+use Rattle.slots.specs.View.{view}
 use Rattle.store_laws.proofs.Elsewhere.{slot-here, slot-vacant}
 use Rattle.store_laws.proofs.OthersStay.{add-keeps, delete-others, rewrite-others}
 use Rattle.store_laws.proofs.Reached.{address-back}
@@ -18,7 +20,7 @@ use mathlib.Core.List.{List, [], _∷_}
 use mathlib.Core.Option.{Option, some}
 use mathlib.Core.Path.{_∙_, _≡_, ap, ap₂, refl, sym}
 use native.Mathlib.Omega.{arith}
-use Rattle.store.specs.declared.Setup.{Setup}
+use Rattle.layout.specs.declared.Setup.{Setup}
 
 -- the slot of the addition, and what keeps it
 unfoldable pub Kept : List Pool → ℕ → List ℕ → Type 0

@@ -7,8 +7,10 @@ use mathlib.Core.List.{List, []}
 use mathlib.Core.Path.{_≡_}
 use native.Mathlib.Omega.{arith}
 use Rattle.rules.specs.Papers.{Outcome, Paper, done, refused}
-use Rattle.store.specs.Calls.{addIn, deleteIn, ifHeld, ifNamed, place}
-use Rattle.store.specs.Pools.{Choice, Found, Pool, allTaken, choose, edit, find, held, into, noPool, noSlot, tooLarge, vacant, wipe}
+use Rattle.store.specs.Calls.{addIn, deleteIn, place}
+use Rattle.lookup.specs.Calls.{ifHeld, ifNamed}
+use Rattle.slots.specs.Pools.{Choice, Found, Pool, allTaken, choose, find, held, into, noPool, noSlot, tooLarge, vacant}
+use Rattle.store.specs.Edits.{edit, wipe}
 
 refused-number : {A : Type 0} (p q : Paper) → _≡_ {A = Outcome A} (refused p) (refused q) → p .number ≡ q .number
 refused-number p q e = cc

@@ -1,28 +1,31 @@
 -- A promise allows one outcome only: one answer, and one content of every lent list.
 use Prim.Native.Nat.{ℕ}
 use Rattle.rules.specs.Papers.{Outcome, Paper, says}
-use Rattle.store.proofs.Bounds.{sized-fits}
+use Rattle.layout.proofs.Bounds.{sized-fits}
 use Rattle.store.proofs.Laid.{lens-laid, store-laid}
-use Rattle.store.proofs.Lists.{part-length}
+use Rattle.slots.proofs.Lists.{part-length}
 use Rattle.store.proofs.Promises.{writes}
-use Rattle.store.specs.Calls.{freshPools, judging}
-use Rattle.store.specs.Judge.{Sized, Sound}
-use Rattle.store.specs.Pools.{Pool}
-use Rattle.store.specs.Promise.{Does, Lends, Reads, Writes}
-use Rattle.store.specs.Refusals.{addedPaper, deletedPaper, lengthPaper, presencePaper, startedPaper, verdictPaper}
-use Rattle.store.specs.View.{Leaves}
+use Rattle.store.specs.Calls.{freshPools}
+use Rattle.lookup.specs.Calls.{judging}
+use Rattle.layout.specs.Judge.{Sized, Sound}
+use Rattle.slots.specs.Pools.{Pool}
+use Rattle.store.specs.Promise.{Does, Writes}
+use Rattle.lookup.specs.Promise.{Lends, Reads}
+use Rattle.store.specs.Refusals.{addedPaper, deletedPaper, startedPaper, verdictPaper}
+use Rattle.lookup.specs.Refusals.{lengthPaper, presencePaper}
+use Rattle.slots.specs.View.{Leaves}
 use Rattle.store_laws.proofs.OneToOne.{one-added, one-deleted, one-length, one-presence, one-started, one-verdict}
 use lib.ListN.{length}
 use mathlib.Core.List.{List}
 use mathlib.Core.Path.{_∙_, _≡_, ap, sym}
-use Rattle.store.specs.declared.Setup.{Setup}
-use Rattle.store.specs.declared.Span.{Span}
+use Rattle.layout.specs.declared.Setup.{Setup}
+use Rattle.lookup.specs.declared.Span.{Span}
 use Rattle.store.specs.declared.Verdict.{Verdict}
 use Rattle.store.specs.declared.Added.{Added}
 use Rattle.store.specs.declared.Deleted.{Deleted}
 use Rattle.store.specs.declared.Started.{Started}
-use Rattle.store.specs.declared.Length.{Length}
-use Rattle.store.specs.declared.Presence.{Presence}
+use Rattle.lookup.specs.declared.Length.{Length}
+use Rattle.lookup.specs.declared.Presence.{Presence}
 
 -- by numbers and values: calls that write both lists, and `read`, which writes its buffer
 module _ (su : Setup) (st le : List ℕ) (o : Outcome (List Pool)) (p q : Paper) (st₁ le₁ st₂ le₂ : List ℕ) where

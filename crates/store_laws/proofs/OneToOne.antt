@@ -1,14 +1,15 @@
 -- `paper` is one-to-one: number and values tell every refusal, and every answer of a call, apart.
-use Rattle.store.specs.Refusals.{addedPaper, deletedPaper, lengthPaper, paper, presencePaper, startedPaper, verdictPaper}
+use Rattle.store.specs.Refusals.{addedPaper, deletedPaper, startedPaper, verdictPaper}
+use Rattle.lookup.specs.Refusals.{lengthPaper, paper, presencePaper}
 use Rattle.store_laws.proofs.Back.{added-back, addedOf, back, deleted-back, deletedOf, length-back, lengthOf, presence-back, presenceOf, started-back, startedOf, there-and-back, verdict-back, verdictOf}
 use mathlib.Core.Path.{_∙_, _≡_, ap, sym}
-use Rattle.store.specs.declared.StoreRefusal.{StoreRefusal}
+use Rattle.slots.specs.declared.StoreRefusal.{StoreRefusal}
 use Rattle.store.specs.declared.Deleted.{Deleted}
 use Rattle.store.specs.declared.Verdict.{Verdict}
 use Rattle.store.specs.declared.Started.{Started}
 use Rattle.store.specs.declared.Added.{Added}
-use Rattle.store.specs.declared.Length.{Length}
-use Rattle.store.specs.declared.Presence.{Presence}
+use Rattle.lookup.specs.declared.Length.{Length}
+use Rattle.lookup.specs.declared.Presence.{Presence}
 
 pub one-refusal : (e d : StoreRefusal) → paper e ≡ paper d → e ≡ d
 one-refusal e d q = sym (there-and-back e) ∙ ap back q ∙ there-and-back d

@@ -3,12 +3,15 @@
 use Prim.Native.Nat.{ℕ}
 use Rattle.rules.specs.Papers.{Paper, after, done, no}
 use Rattle.store.proofs.Chosen.{choose-open}
-use Rattle.store.specs.Address.{poolOf, slotOf}
-use Rattle.store.specs.Calls.{addIn, deleteIn, ifHeld, ifNamed, judging, place}
-use Rattle.store.specs.Judge.{Sound}
-use Rattle.store.specs.Pools.{Found, Pool, choose, edit, fill, find, held, into, noPool, noSlot, rewrite, taken, vacant, wipe}
-use Rattle.store.specs.Promise.{Writes, startOf}
-use Rattle.store.specs.View.{put, view}
+use Rattle.address.specs.Address.{poolOf, slotOf}
+use Rattle.store.specs.Calls.{addIn, deleteIn, place}
+use Rattle.lookup.specs.Calls.{ifHeld, ifNamed, judging}
+use Rattle.layout.specs.Judge.{Sound}
+use Rattle.slots.specs.Pools.{Found, Pool, choose, find, held, into, noPool, noSlot, taken, vacant}
+use Rattle.store.specs.Edits.{edit, fill, rewrite, wipe}
+use Rattle.store.specs.Promise.{Writes}
+use Rattle.lookup.specs.Promise.{startOf}
+use Rattle.slots.specs.View.{put, view}
 use Rattle.store_laws.proofs.Elsewhere.{named, placed-keeps, slot-else}
 use Rattle.store_laws.proofs.Reached.{add-done, address-back, delete-done, modify-leaves}
 use Rattle.store_laws.specs.Requests.{Elsewhere, theSlot}
@@ -17,7 +20,7 @@ use mathlib.Core.Bool.{Bool}
 use mathlib.Core.List.{List, [], _∷_}
 use mathlib.Core.Option.{some}
 use mathlib.Core.Path.{_∙_, _≡_, ap, refl, sym}
-use Rattle.store.specs.declared.Setup.{Setup}
+use Rattle.layout.specs.declared.Setup.{Setup}
 
 -- over the subpools
 pub rewrite-others : (ps : List Pool) (a : ℕ) (d : List ℕ) (k i : ℕ) → Elsewhere k i a → theSlot (edit (rewrite d) ps a) k i ≡ theSlot ps k i

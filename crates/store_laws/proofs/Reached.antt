@@ -2,27 +2,30 @@
 use Prim.Native.Nat.{ℕ}
 use Rattle.rules.specs.Papers.{Outcome, Paper, done, no, refused, says}
 use Rattle.rules.specs.Tests.{unless}
-use Rattle.store.proofs.Bounds.{bounds}
+use Rattle.layout.proofs.Bounds.{bounds}
 use Rattle.store.proofs.Chosen.{add-at, room-there}
 use Rattle.store.proofs.Edit.{leaves-rewrite}
-use Rattle.store.proofs.Find.{find-held}
-use Rattle.store.proofs.Packets.{held-inside, packet-there}
+use Rattle.slots.proofs.Find.{find-held}
+use Rattle.lookup.proofs.Packets.{held-inside, packet-there}
 use Rattle.store.proofs.Promises.{delete-at, does-refused, writes}
 use Rattle.store.proofs.Start.{fresh-done, fresh-leaves}
-use Rattle.store.specs.Address.{addressOf, poolOf, slotOf}
-use Rattle.store.specs.Calls.{addIn, deleteIn, freshIn, freshPools, ifHeld, ifNamed, judging, place}
-use Rattle.store.specs.Inside.{cellOf}
-use Rattle.store.specs.Judge.{Sized, Sound, buffersOk, setupOk, sized}
-use Rattle.store.specs.Pools.{Choice, Found, Pool, allTaken, choose, edit, find, held, into, noPool, noSlot, rewrite, tooLarge, vacant}
-use Rattle.store.specs.Promise.{Does, Writes, startOf}
+use Rattle.address.specs.Address.{addressOf, poolOf, slotOf}
+use Rattle.store.specs.Calls.{addIn, deleteIn, freshIn, freshPools, place}
+use Rattle.lookup.specs.Calls.{ifHeld, ifNamed, judging}
+use Rattle.slots.specs.Inside.{cellOf}
+use Rattle.layout.specs.Judge.{Sized, Sound, buffersOk, setupOk, sized}
+use Rattle.slots.specs.Pools.{Choice, Found, Pool, allTaken, choose, find, held, into, noPool, noSlot, tooLarge, vacant}
+use Rattle.store.specs.Edits.{edit, rewrite}
+use Rattle.store.specs.Promise.{Does, Writes}
+use Rattle.lookup.specs.Promise.{startOf}
 use Rattle.store.specs.Refusals.{startedPaper}
-use Rattle.store.specs.View.{Leaves, put, view}
+use Rattle.slots.specs.View.{Leaves, put, view}
 use lib.ListN.{length}
 use mathlib.Core.Bool.{Bool, false, true}
 use mathlib.Core.List.{List, [], _∷_}
 use mathlib.Core.Path.{_∙_, _≡_, ap, refl, subst, sym}
 use native.Mathlib.Omega.{arith}
-use Rattle.store.specs.declared.Setup.{Setup}
+use Rattle.layout.specs.declared.Setup.{Setup}
 use Rattle.store.specs.declared.Started.the-variants as St
 
 pub sized-of : {su : Setup} {st le : List ℕ} → Sound su st le → Sized su st le

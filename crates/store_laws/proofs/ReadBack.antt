@@ -2,11 +2,13 @@
 use Prim.Native.Nat.{_≤_, ℕ}
 use Rattle.rules.specs.Papers.{done, no, refused}
 use Rattle.rules.specs.Tests.{unless}
-use Rattle.store.specs.Address.{poolOf, slotOf}
-use Rattle.store.specs.Calls.{addIn, deleteIn, ifHeld, ifNamed, packetIn, readIn}
-use Rattle.store.specs.Judge.{Sound}
-use Rattle.store.specs.Pools.{Pool, edit, over, wipe}
-use Rattle.store.specs.View.{view}
+use Rattle.address.specs.Address.{poolOf, slotOf}
+use Rattle.store.specs.Calls.{addIn, deleteIn}
+use Rattle.lookup.specs.Calls.{ifHeld, ifNamed, packetIn, readIn}
+use Rattle.layout.specs.Judge.{Sound}
+use Rattle.slots.specs.Pools.{Pool, over}
+use Rattle.store.specs.Edits.{edit, wipe}
+use Rattle.slots.specs.View.{view}
 use Rattle.store_laws.proofs.Elsewhere.{slot-here, slot-seen}
 use Rattle.store_laws.proofs.Keeping.{Kept, added, held-packet, run-keeps}
 use Rattle.store_laws.specs.Requests.{AllSpare, StoreRequest, run}
@@ -14,7 +16,7 @@ use borrow.Author.Tests.{le-leb}
 use lib.ListN.{length}
 use mathlib.Core.List.{List, [], _∷_}
 use mathlib.Core.Path.{_∙_, _≡_, ap}
-use Rattle.store.specs.declared.Setup.{Setup}
+use Rattle.layout.specs.declared.Setup.{Setup}
 
 -- d was added and a answered; then come any requests that neither delete nor rewrite the slot that a names.
 -- Whoever asks for the packet at a gets d; a read gets d; a deletion is done, and makes it 18

@@ -3,14 +3,15 @@ use Prim.Native.Nat.{ℕ}
 use Rattle.rules.proofs.Order.{refusal-keeps}
 use Rattle.rules.specs.Papers.{Outcome, Paper, after, says}
 use Rattle.store.proofs.Promises.{writes}
-use Rattle.store.specs.Calls.{judging, packetIn}
-use Rattle.store.specs.Judge.{Sound}
-use Rattle.store.specs.Pools.{Pool}
-use Rattle.store.specs.Promise.{Does, Reads, Writes}
-use Rattle.store.specs.View.{lensWith, storeWith}
+use Rattle.lookup.specs.Calls.{judging, packetIn}
+use Rattle.layout.specs.Judge.{Sound}
+use Rattle.slots.specs.Pools.{Pool}
+use Rattle.store.specs.Promise.{Does, Writes}
+use Rattle.lookup.specs.Promise.{Reads}
+use Rattle.slots.specs.View.{lensWith, storeWith}
 use mathlib.Core.List.{List, []}
 use mathlib.Core.Path.{_∙_, _≡_, ap}
-use Rattle.store.specs.declared.Setup.{Setup}
+use Rattle.layout.specs.declared.Setup.{Setup}
 
 -- `add`, `delete`, `fresh`
 pub call-keeps : (su : Setup) (st le : List ℕ) (o : Outcome (List Pool)) (p : Paper) (st′ le′ : List ℕ) → Writes su st le o p st′ le′

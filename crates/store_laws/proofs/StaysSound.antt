@@ -2,18 +2,20 @@
 -- `read`, `modify`, presence and length are lent both lists for reading alone; so is `modify_part` its length table.
 use Prim.Native.Nat.{ℕ}
 use Rattle.rules.specs.Papers.{Paper}
-use Rattle.store.specs.Calls.{addIn, deleteIn, freshIn, freshPools, judging}
-use Rattle.store.specs.Judge.{Sized, Sound}
-use Rattle.store.specs.Pools.{find, held}
-use Rattle.store.specs.Promise.{Does, Writes, startOf}
+use Rattle.store.specs.Calls.{addIn, deleteIn, freshIn, freshPools}
+use Rattle.lookup.specs.Calls.{judging}
+use Rattle.layout.specs.Judge.{Sized, Sound}
+use Rattle.slots.specs.Pools.{find, held}
+use Rattle.store.specs.Promise.{Does, Writes}
+use Rattle.lookup.specs.Promise.{startOf}
 use Rattle.store.specs.Refusals.{startedPaper}
-use Rattle.store.specs.View.{Leaves, put, view}
+use Rattle.slots.specs.View.{Leaves, put, view}
 use Rattle.store_laws.proofs.Fitting.{add-fits, delete-fits, fresh-fits, rewrite-fits, sound-of, view-fits}
 use Rattle.store_laws.proofs.Reached.{add-done, delete-done, fresh-made, modify-leaves, sized-of}
 use lib.ListN.{length}
 use mathlib.Core.List.{List}
 use mathlib.Core.Path.{_≡_}
-use Rattle.store.specs.declared.Setup.{Setup}
+use Rattle.layout.specs.declared.Setup.{Setup}
 use Rattle.store.specs.declared.Started.the-variants as St
 
 module _ (su : Setup) (st le : List ℕ) (s : Sound su st le) where

@@ -2,9 +2,11 @@
 -- Assumes nothing.
 use Prim.Native.Nat.{suc, zero, ℕ}
 use Rattle.rules.specs.Papers.{after, done}
-use Rattle.store.specs.Address.{poolOf, slotOf}
-use Rattle.store.specs.Calls.{deleteIn, ifHeld, ifNamed}
-use Rattle.store.specs.Pools.{Found, Pool, Slot, edit, editAt, editSlot, find, findAt, findSlot, free, held, noPool, noSlot, taken, vacant, wipe}
+use Rattle.address.specs.Address.{poolOf, slotOf}
+use Rattle.store.specs.Calls.{deleteIn}
+use Rattle.lookup.specs.Calls.{ifHeld, ifNamed}
+use Rattle.slots.specs.Pools.{Found, Pool, Slot, find, findAt, findSlot, free, held, noPool, noSlot, taken, vacant}
+use Rattle.store.specs.Edits.{edit, editAt, editSlot, wipe}
 use mathlib.Core.List.{List, [], _∷_}
 use mathlib.Core.Path.{_≡_, ap, refl, subst, sym}
 

@@ -1,9 +1,10 @@
 -- Requests to a store, what they leave by the calls' own definitions, and which slot each of them may touch.
 use Prim.Native.Nat.{suc, zero, ℕ}
 use Rattle.rules.specs.Papers.{after}
-use Rattle.store.specs.Address.{poolOf, slotOf}
+use Rattle.address.specs.Address.{poolOf, slotOf}
 use Rattle.store.specs.Calls.{addIn, deleteIn}
-use Rattle.store.specs.Pools.{Pool, Slot, edit, rewrite}
+use Rattle.slots.specs.Pools.{Pool, Slot}
+use Rattle.store.specs.Edits.{edit, rewrite}
 use mathlib.Core.Bool.{Bool}
 use mathlib.Core.List.{List, [], _∷_}
 use mathlib.Core.Option.{Option, none, some}

@@ -11,8 +11,8 @@ use native.Mathlib.Omega.{arith}
 use Rattle.rules.specs.Papers.{no, refused}
 use Rattle.rules.specs.Tests.{allOf, unless}
 use Rattle.schedule.specs.State.{State}
-use Rattle.store.specs.Pools.{Pool}
-use Rattle.table.specs.Entries.{Entry}
+use Rattle.slots.specs.Pools.{Pool}
+use Rattle.rows.specs.Entries.{Entry}
 use Rattle.tick.specs.Inside.{lack}
 use Rattle.tick.specs.Tick.{firstLacks, handedOut, tickIn, usable}
 use Rattle.time.specs.Time.{instant}

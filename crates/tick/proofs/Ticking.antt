@@ -15,12 +15,13 @@ use Rattle.schedule.proofs.Promises.{does-done, does-refused}
 use Rattle.schedule.specs.Judge.{Sound}
 use Rattle.schedule.specs.State.{State, recordOf, stateOf, withCount, withEntries, withPools}
 use Rattle.schedule.specs.declared.Setup.{Setup}
-use Rattle.store.specs.Judge.{Sound as StoreSound}
-use Rattle.store.specs.Pools.{Pool}
-use Rattle.store.specs.View.{view}
-use Rattle.table.proofs.Rows.{length-unpack}
-use Rattle.table.specs.Entries.{Entry, unpack}
-use Rattle.table.specs.Order.{Held, below, Sound as TableSound}
+use Rattle.layout.specs.Judge.{Sound as StoreSound}
+use Rattle.slots.specs.Pools.{Pool}
+use Rattle.slots.specs.View.{view}
+use Rattle.rows.proofs.Rows.{length-unpack}
+use Rattle.rows.specs.Entries.{Entry, unpack}
+use Rattle.rows.specs.Order.{Held, Sound as TableSound}
+use Rattle.table.specs.Before.{below}
 use Rattle.tick.proofs.Lacking.{hands-out, lacks-first, short-log}
 use Rattle.tick.specs.Inside.{lack}
 use Rattle.tick.specs.Promise.{TickDoes, left, tickPaper}

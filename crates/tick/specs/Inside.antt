@@ -1,8 +1,8 @@
 -- What the contracts of private functions cite. A reader need not believe this: the public call's promise does not name it.
 use Prim.Native.Nat.{ℕ}
 use Rattle.rules.specs.Tests.{allOf, unless}
-use Rattle.store.specs.Pools.{Pool}
-use Rattle.table.specs.Entries.{Entry}
+use Rattle.slots.specs.Pools.{Pool}
+use Rattle.rows.specs.Entries.{Entry}
 use Rattle.turns.specs.Released.{firstTotal}
 use lib.Dec.{ltb}
 use mathlib.Core.Bool.{not}

@@ -9,10 +9,10 @@ use schedule::Setup;
 ghost use mathlib.Core.Path.{_≡_};
 ghost use Prim.Native.Nat.{_≤_, min};
 ghost use Rattle.schedule.specs.Judge.{Sound};
-ghost use Rattle.store.specs.Judge.{Sound as StoreSound};
-ghost use Rattle.store.specs.View.{view};
-ghost use Rattle.table.specs.Entries.{unpack};
-ghost use Rattle.table.specs.Order.{Held};
+ghost use Rattle.layout.specs.Judge.{Sound as StoreSound};
+ghost use Rattle.slots.specs.View.{view};
+ghost use Rattle.rows.specs.Entries.{unpack};
+ghost use Rattle.rows.specs.Order.{Held};
 ghost use Rattle.tick.specs.Inside.{lack};
 ghost use Rattle.tick.specs.Promise.{TickDoes, tickPaper};
 ghost use Rattle.tick.specs.Tick.{tickIn};
@@ -40,7 +40,7 @@ pub fn tick(
     let count = rec.count;
     let clock = rec.clock;
     let cap = least(long, MAX_LOG_BYTES);
-    let due = table::search::up_to(rows, count, clock.to_moment());
+    let due = table::up_to(rows, count, clock.to_moment());
     let n = least(due, limit);
     let t = lacking(s, store, lens, rows, count, n, cap);
     if 0 < t {
@@ -80,7 +80,7 @@ pub fn refuse(rec: Record, e: ScheduleRefusal) -> Ticked
 
 // The log that the first of n rows needs alone, where it does not fit into cap bytes; 0 where it fits, or there is none.
 fn lacking(
-    setup: store::Setup,
+    setup: layout::Setup,
     store: &[u8],
     lens: &[u16],
     rows: &[u64],

@@ -49,7 +49,7 @@ pub fn with_record(b: Bench, rec: Record) -> Bench {
 }
 
 fn setup(text: &[u8]) -> Setup {
-    let s = store::Setup {
+    let s = layout::Setup {
         pools: 1,
         sizes: [line::short(text, 4), 0, 0, 0, 0, 0, 0, 0],
         slots: [line::short(text, 1), 0, 0, 0, 0, 0, 0, 0],

@@ -112,14 +112,14 @@ fn change(
         return rec;
     }
     if k == b'v' {
-        store::delete(setup.store, store, lens, line::number(text, 1));
+        store_public::delete(setup.store, store, lens, line::number(text, 1));
         return rec;
     }
     if k == b'i' {
         return insert(setup, rec, text, store, lens, rows);
     }
     if k == b'p' {
-        let p = insertions::insert_unwrapped_tc(
+        let p = schedule_public::insert_unwrapped_tc(
             setup,
             rec,
             store,
@@ -150,7 +150,7 @@ fn mark(rec: Record, k: u8, text: &[u8]) -> Record {
 }
 
 // Adds a number of packets of a length. The first begins with a given byte, each later one with the next; so do a packet's bytes go on.
-fn add(setup: store::Setup, text: &[u8], store: &mut [u8], lens: &mut [u16]) {
+fn add(setup: layout::Setup, text: &[u8], store: &mut [u8], lens: &mut [u16]) {
     let count = line::index(text, 1);
     let n = line::part(text, 4, 4096);
     let mut v = line::number(text, 7);
@@ -162,12 +162,12 @@ fn add(setup: store::Setup, text: &[u8], store: &mut [u8], lens: &mut [u16]) {
     }
 }
 
-fn put(setup: store::Setup, store: &mut [u8], lens: &mut [u16], n: usize, v: u64)
+fn put(setup: layout::Setup, store: &mut [u8], lens: &mut [u16], n: usize, v: u64)
     requires { ⌜ n ≤ 4096 ⌝ }
 {
     let mut packet = [0u8; 4096];
     state::count_up(&mut packet, v);
-    store::add(setup, store, lens, &packet[0..n]);
+    store_public::add(setup, store, lens, &packet[0..n]);
 }
 
 // Inserts a number of entries: their time, then request ID and address of the first, then by how much each rises.
@@ -188,7 +188,7 @@ fn insert(
     let mut r = rec;
     let mut i: usize = 0;
     while i < count {
-        let c = insertions::insert_unwrapped_and_stored_tc(
+        let c = schedule_public::insert_unwrapped_and_stored_tc(
             setup,
             r,
             store,

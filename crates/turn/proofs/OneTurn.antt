@@ -3,15 +3,17 @@
 use Prim.Native.Nat.{_+_, _-_, _≤_, ℕ}
 use Rattle.log.specs.Log.{recordBytes}
 use Rattle.rules.specs.Papers.{Paper, done, refused, says}
-use Rattle.store.proofs.Asks.{found-held-at}
+use Rattle.lookup.proofs.Asks.{found-held-at}
 use Rattle.store.proofs.Laid.{leaves-as, leaves-same}
-use Rattle.store.proofs.Lists.{taken-out}
-use Rattle.store.specs.Calls.{deleteIn, ifHeld, ifNamed, packetIn}
-use Rattle.store.specs.Limits.{maxSlotSize}
-use Rattle.store.specs.Pools.{Found, Pool, find, held, noPool, noSlot, vacant}
-use Rattle.store.specs.Promise.{Does, Finds, foundAs}
-use Rattle.store.specs.Refusals.{paper}
-use Rattle.store.specs.View.{Leaves, part, view}
+use Rattle.slots.proofs.Lists.{taken-out}
+use Rattle.store.specs.Calls.{deleteIn}
+use Rattle.lookup.specs.Calls.{ifHeld, ifNamed, packetIn}
+use Rattle.layout.specs.Limits.{maxSlotSize}
+use Rattle.slots.specs.Pools.{Found, Pool, find, held, noPool, noSlot, vacant}
+use Rattle.store.specs.Promise.{Does}
+use Rattle.lookup.specs.Promise.{Finds, foundAs}
+use Rattle.lookup.specs.Refusals.{paper}
+use Rattle.slots.specs.View.{Leaves, part, view}
 use Rattle.store_laws.proofs.Fitting.{sound-of, view-fits}
 use Rattle.store_laws.proofs.Reached.{sized-of}
 use Rattle.store_laws.proofs.StaysSound.{delete-stays}
@@ -25,12 +27,12 @@ use mathlib.Core.List.{List, [], _∷_}
 use mathlib.Core.Path.{_∙_, _≡_, ap, refl, subst, sym}
 use native.Mathlib.Nat.{min-eq-left}
 use native.Mathlib.Omega.{arith}
-use Rattle.store.specs.Judge.{Sound as StoreSound}
-use Rattle.store.specs.declared.Setup.{Setup}
-use Rattle.store.specs.declared.Span.{Span}
-use Rattle.store.specs.declared.StoreRefusal.{StoreRefusal}
-use Rattle.store.specs.declared.Whereabouts.{Whereabouts}
-use Rattle.store.specs.declared.Whereabouts.the-variants as W
+use Rattle.layout.specs.Judge.{Sound as StoreSound}
+use Rattle.layout.specs.declared.Setup.{Setup}
+use Rattle.lookup.specs.declared.Span.{Span}
+use Rattle.slots.specs.declared.StoreRefusal.{StoreRefusal}
+use Rattle.lookup.specs.declared.Whereabouts.{Whereabouts}
+use Rattle.lookup.specs.declared.Whereabouts.the-variants as W
 
 -- where the address check fails, a turn leaves the store as it is
 leave-missing : (del : Bool) (ps : List Pool) (a : ℕ) → Missing (find ps a) → ps ≡ leave del ps a

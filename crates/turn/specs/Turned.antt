@@ -1,15 +1,15 @@
 -- What one turn promises the loop over the turns.
 use Prim.Native.Nat.{_+_, ℕ}
 use Rattle.log.specs.Log.{recordBytes}
-use Rattle.store.specs.Pools.{find}
-use Rattle.store.specs.View.{Leaves, view}
+use Rattle.slots.specs.Pools.{find}
+use Rattle.slots.specs.View.{Leaves, view}
 use Rattle.turn.specs.Turns.{flagFor, leave, packetOf}
 use lib.ListN.{length}
 use lib.Seq.{sets}
 use mathlib.Core.Bool.{Bool}
 use mathlib.Core.List.{List}
 use mathlib.Core.Path.{_≡_}
-use Rattle.store.specs.declared.Setup.{Setup}
+use Rattle.layout.specs.declared.Setup.{Setup}
 
 -- the record from `at` on, by what the address finds; the store after the turn; r, the length of the record
 pub record Turned (su : Setup) (del on : Bool) (id a : ℕ) (st le log : List ℕ) (at r : ℕ) (st′ le′ log′ : List ℕ) : Type 0 where

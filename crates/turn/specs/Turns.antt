@@ -2,8 +2,9 @@
 use Prim.Native.Nat.{_+_, _-_, ℕ}
 use Rattle.log.specs.Log.{LogRecord}
 use Rattle.rules.specs.Tests.{allOf, unless}
-use Rattle.store.specs.Pools.{Found, Pool, edit, find, held, noPool, noSlot, vacant, wipe}
-use Rattle.table.specs.Entries.{Entry, time}
+use Rattle.slots.specs.Pools.{Found, Pool, find, held, noPool, noSlot, vacant}
+use Rattle.store.specs.Edits.{edit, wipe}
+use Rattle.rows.specs.Entries.{Entry, time}
 use lib.Dec.{leb, ltb}
 use lib.ListN.{length, take}
 use mathlib.Core.Bool.{Bool, false, true}

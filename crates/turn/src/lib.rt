@@ -1,11 +1,11 @@
 // One turn of a tick over the lent store, length table and log, for a caller that has judged: what an entry hands out, and the packet gone in delete mode.
-use store::Whereabouts;
+use lookup::Whereabouts;
 ghost use mathlib.Core.Path.{_≡_};
 ghost use Prim.Native.Nat.{_+_, _≤_};
 ghost use lib.ListN.{length};
-ghost use Rattle.store.specs.Judge.{Sound as StoreSound};
-ghost use Rattle.store.specs.Pools.{find};
-ghost use Rattle.store.specs.View.{Leaves, view};
+ghost use Rattle.layout.specs.Judge.{Sound as StoreSound};
+ghost use Rattle.slots.specs.Pools.{find};
+ghost use Rattle.slots.specs.View.{Leaves, view};
 ghost use Rattle.turn.specs.Turned.{Turned};
 ghost use Rattle.turn.specs.Turns.{flagOf, leave, packetOf};
 
@@ -19,7 +19,7 @@ fn flag_of(on: bool) -> u8
 }
 
 // In delete mode, deletes the packet of an address.
-fn drop_packet(setup: store::Setup, store: &mut [u8], lens: &mut [u16], addr: u64, delete: bool)
+fn drop_packet(setup: layout::Setup, store: &mut [u8], lens: &mut [u16], addr: u64, delete: bool)
     requires { ⌜ StoreSound setup (now store) (now lens) ⌝ }
     ensures { λ _. ⌜ Leaves setup (now (store .entry)) (now (lens .entry))
         (leave delete (view setup (now (store .entry)) (now (lens .entry))) addr)
@@ -32,7 +32,7 @@ fn drop_packet(setup: store::Setup, store: &mut [u8], lens: &mut [u16], addr: u6
 
 // One turn: the record from `at` on, and in delete mode the packet gone. It answers the record's length.
 pub fn hand_one(
-    setup: store::Setup,
+    setup: layout::Setup,
     store: &mut [u8],
     lens: &mut [u16],
     log: &mut [u8],
@@ -47,7 +47,7 @@ pub fn hand_one(
     ensures { λ r. ⌜ Turned setup delete on id addr (now (store .entry)) (now (lens .entry)) (now (log .entry))
         at r (now (store .exit)) (now (lens .exit)) (now (log .exit)) ⌝ }
 {
-    let w = store::judged::find(setup, store, lens, addr);
+    let w = lookup::find(setup, store, lens, addr);
     match w {
         Whereabouts::Refused(_) => {
             log::put_record(log, at, 2, id, addr, &store[0..0]);

@@ -5,13 +5,13 @@ use Rattle.handing.specs.Handing.{Turns, afterAll, turns}
 use Rattle.log.specs.Log.{LogRecord, logBytes}
 use Rattle.measure.specs.Fitting.{fitting}
 use Rattle.store.proofs.Laid.{leaves-as}
-use Rattle.store.specs.Pools.{Pool}
-use Rattle.store.specs.View.{view}
-use Rattle.store.specs.declared.Setup.{Setup}
-use Rattle.table.proofs.Rows.{take-unpack}
-use Rattle.table.proofs.Stays.{without-first}
-use Rattle.table.specs.Edits.{without}
-use Rattle.table.specs.Entries.{Entry, relaid, unpack}
+use Rattle.slots.specs.Pools.{Pool}
+use Rattle.slots.specs.View.{view}
+use Rattle.layout.specs.declared.Setup.{Setup}
+use Rattle.rows.proofs.Rows.{take-unpack}
+use Rattle.table_edit.proofs.Stays.{without-first}
+use Rattle.table_edit.specs.Edits.{without}
+use Rattle.rows.specs.Entries.{Entry, relaid, unpack}
 use Rattle.turn.specs.Turns.{Handout, always, handout, leave}
 use Rattle.turns.proofs.Room.{few}
 use Rattle.turns.specs.Released.{CarriedOut, Released}

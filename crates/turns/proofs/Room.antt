@@ -3,10 +3,10 @@
 use Prim.Native.Nat.{_*_, _+_, _<_, _≤_, suc, zero, ℕ}
 use Rattle.log.specs.Log.{LogRecord, mostLogBytes, records, total}
 use Rattle.measure.specs.Fitting.{fitting}
-use Rattle.store.specs.Pools.{Pool, find}
-use Rattle.store.specs.View.{view}
-use Rattle.table.proofs.Rows.{length-unpack, take-unpack}
-use Rattle.table.specs.Entries.{row, unpack}
+use Rattle.slots.specs.Pools.{Pool, find}
+use Rattle.slots.specs.View.{view}
+use Rattle.rows.proofs.Rows.{length-unpack, take-unpack}
+use Rattle.rows.specs.Entries.{row, unpack}
 use Rattle.turn.specs.Turns.{always, leave, packetOf}
 use Rattle.turns_laws.proofs.Room.{fitting-holds, fitting-le}
 use Rattle.turns.specs.Released.{firstTotal}
@@ -17,7 +17,7 @@ use mathlib.Core.Bool.{Bool}
 use mathlib.Core.List.{List}
 use mathlib.Core.Path.{_∙_, _≡_, refl}
 use native.Mathlib.Omega.{arith}
-use Rattle.store.specs.declared.Setup.{Setup}
+use Rattle.layout.specs.declared.Setup.{Setup}
 
 total-of : (rs : List LogRecord) (n t : ℕ) → length rs ≡ n → 8 + 4 * n + length (records rs) ≤ t → total rs ≤ t
 unfolding total

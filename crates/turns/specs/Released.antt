@@ -1,10 +1,10 @@
 -- What is handed out of the rows of a schedule: how many, their log, and the store and the rows after them.
 use Prim.Native.Nat.{_+_, _≤_, min, ℕ}
 use Rattle.log.specs.Log.{logBytes}
-use Rattle.store.specs.Pools.{Pool, find}
-use Rattle.store.specs.View.{Leaves, view}
-use Rattle.store.specs.declared.Setup.{Setup}
-use Rattle.table.specs.Entries.{Entry, relaid, unpack}
+use Rattle.slots.specs.Pools.{Pool, find}
+use Rattle.slots.specs.View.{Leaves, view}
+use Rattle.layout.specs.declared.Setup.{Setup}
+use Rattle.rows.specs.Entries.{Entry, relaid, unpack}
 use Rattle.turn.specs.Turns.{Handout, always, handout, leave, need}
 use Rattle.turns_laws.specs.Due.{due}
 use lib.ListN.{length}

@@ -3,16 +3,16 @@ ghost use mathlib.Core.Path.{_≡_};
 ghost use Prim.Native.Nat.{_<_, _≤_};
 ghost use lib.ListN.{length};
 ghost use Rattle.log.specs.Log.{mostLogBytes};
-ghost use Rattle.store.specs.Judge.{Sound as StoreSound};
-ghost use Rattle.store.specs.View.{view};
-ghost use Rattle.table.specs.Entries.{unpack};
-ghost use Rattle.table.specs.Order.{Held};
+ghost use Rattle.layout.specs.Judge.{Sound as StoreSound};
+ghost use Rattle.slots.specs.View.{view};
+ghost use Rattle.rows.specs.Entries.{unpack};
+ghost use Rattle.rows.specs.Order.{Held};
 ghost use Rattle.turns.specs.Released.{Released, firstTotal};
-use store::Whereabouts;
+use lookup::Whereabouts;
 
 // The log that the first entry's record needs alone.
 pub fn first_total(
-    setup: store::Setup,
+    setup: layout::Setup,
     store: &[u8],
     lens: &[u16],
     rows: &[u64],
@@ -25,8 +25,8 @@ pub fn first_total(
     if count < 1 {
         return 8;
     }
-    let info = table::row::tc_info(rows, count, 0);
-    let w = store::judged::find(setup, store, lens, info.addr);
+    let info = rows::tc_info(rows, count, 0);
+    let w = lookup::find(setup, store, lens, info.addr);
     match w {
         Whereabouts::Refused(_) => 29,
         Whereabouts::At(s) => 29 + s.len,
@@ -35,7 +35,7 @@ pub fn first_total(
 
 // Hands out as many of the first n of count rows as fit into cap bytes of the log, and takes their rows out. It answers how many.
 pub fn release(
-    setup: store::Setup,
+    setup: layout::Setup,
     store: &mut [u8],
     lens: &mut [u16],
     rows: &mut [u64],
@@ -55,6 +55,6 @@ pub fn release(
 {
     let m = measure::measure(setup, store, lens, rows, n, cap, delete);
     handing::hand_out(setup, store, lens, rows, log, m, on, delete);
-    table::edit::remove(rows, count, 0, m);
+    table_edit::remove(rows, count, 0, m);
     m
 }

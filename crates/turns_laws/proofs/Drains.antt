@@ -3,12 +3,13 @@
 use Prim.Native.Nat.{_*_, _+_, _-_, _/_, _≤_, min, suc, zero, ℕ}
 use Rattle.measure.specs.Fitting.{fitting}
 use Rattle.rules.specs.Tests.{unless}
-use Rattle.store.specs.Judge.{Sound}
-use Rattle.store.specs.Pools.{Pool, find}
-use Rattle.store.specs.View.{view}
-use Rattle.table.proofs.Order.{below-le, drop-ordered}
-use Rattle.table.specs.Entries.{Entry}
-use Rattle.table.specs.Order.{ordered}
+use Rattle.layout.specs.Judge.{Sound}
+use Rattle.slots.specs.Pools.{Pool, find}
+use Rattle.slots.specs.View.{view}
+use Rattle.rows.proofs.Order.{drop-ordered}
+use Rattle.table.proofs.Before.{below-le}
+use Rattle.rows.specs.Entries.{Entry}
+use Rattle.rows.specs.Order.{ordered}
 use Rattle.turn.specs.Turns.{Handout, handed, handout, leave, need}
 use Rattle.turns_laws.proofs.Due.{below-drop, due-is}
 use Rattle.turns_laws.proofs.Packets.{short-leave, short-need, sound-short}
@@ -25,7 +26,7 @@ use mathlib.Core.List.{List, [], _++_, _∷_}
 use mathlib.Core.Path.{_∙_, _≡_, ap, ap₂, refl, subst, sym}
 use native.Mathlib.Nat.{div-add-mod', mod-lt, mul-le-mul-right}
 use native.Mathlib.Omega.{arith}
-use Rattle.store.specs.declared.Setup.{Setup}
+use Rattle.layout.specs.declared.Setup.{Setup}
 
 -- ---- one handout after another
 

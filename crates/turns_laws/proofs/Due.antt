@@ -2,9 +2,11 @@
 -- Assumes nothing.
 use Prim.Native.Nat.{_+_, _-_, _<_, _≤_, suc, zero, ℕ}
 use Rattle.rules.specs.Tests.{unless}
-use Rattle.table.proofs.Order.{Head, below-head, below-not, ordered-cons}
-use Rattle.table.specs.Entries.{Entry, time}
-use Rattle.table.specs.Order.{below, orderedFrom}
+use Rattle.rows.proofs.Order.{Head, ordered-cons}
+use Rattle.table.proofs.Before.{below-head, below-not}
+use Rattle.rows.specs.Entries.{Entry, time}
+use Rattle.rows.specs.Order.{orderedFrom}
+use Rattle.table.specs.Before.{below}
 use Rattle.turns_laws.specs.Due.{due, dueCount}
 use borrow.Author.Tests.{leb-false, leb-true, lt-leb}
 use lib.Dec.{leb, ltb}

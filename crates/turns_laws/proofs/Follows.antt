@@ -2,8 +2,8 @@
 -- Assumes nothing.
 use Prim.Native.Nat.{_+_, _-_, ℕ}
 use Rattle.rules.specs.Tests.{unless}
-use Rattle.store.specs.Pools.{Pool, find}
-use Rattle.table.specs.Entries.{Entry}
+use Rattle.slots.specs.Pools.{Pool, find}
+use Rattle.rows.specs.Entries.{Entry}
 use Rattle.turn.specs.Turns.{Handout, goesOut, handed, handout, need, put, stop}
 use mathlib.Core.Bool.{Bool, false, true}
 use mathlib.Core.List.{List, [], _∷_}

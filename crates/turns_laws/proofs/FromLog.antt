@@ -4,8 +4,8 @@ use Prim.Native.Nat.{_<_, _^_, _≤_, suc, zero, ℕ}
 use Rattle.log.proofs.ReadBack.{Plain, read-back}
 use Rattle.log.specs.Log.{logBytes, mostLogBytes}
 use Rattle.log.specs.Reading.{readLog}
-use Rattle.store.specs.Pools.{Pool}
-use Rattle.table.specs.Entries.{Entry}
+use Rattle.slots.specs.Pools.{Pool}
+use Rattle.rows.specs.Entries.{Entry}
 use Rattle.turn.specs.Turns.{handout}
 use Rattle.turns_laws.proofs.Largest.{largest}
 use Rattle.turns_laws.proofs.Split.{splits}

@@ -5,9 +5,9 @@ use Rattle.log.proofs.Sizes.{taken, total-parts}
 use Rattle.log.specs.Log.{records, total}
 use Rattle.measure.specs.Fitting.{fitting}
 use Rattle.rules.specs.Tests.{unless}
-use Rattle.store.specs.Pools.{Pool, find}
-use Rattle.table.proofs.Order.{below-le}
-use Rattle.table.specs.Entries.{Entry}
+use Rattle.slots.specs.Pools.{Pool, find}
+use Rattle.table.proofs.Before.{below-le}
+use Rattle.rows.specs.Entries.{Entry}
 use Rattle.turn.specs.Turns.{handout, need}
 use Rattle.turns_laws.proofs.Room.{fitting-holds, fitting-le}
 use Rattle.turns_laws.proofs.Split.{at-most, many}

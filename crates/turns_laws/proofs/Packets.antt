@@ -1,13 +1,14 @@
 -- No packet of a judged store is longer than its largest slot, and no turn makes one longer.
 use Prim.Native.Nat.{_+_, _-_, _<_, _≤_, suc, zero, ℕ}
-use Rattle.store.proofs.Bounds.{bounds, setup-rising}
-use Rattle.store.proofs.Find.{find-held, find-no-pool, find-no-slot, find-vacant}
-use Rattle.store.specs.Address.{poolOf, slotOf}
-use Rattle.store.specs.Judge.{Sound}
-use Rattle.store.specs.Layout.{rowsBefore, sizeAt, slotsAt}
-use Rattle.store.specs.Limits.{storeFree}
-use Rattle.store.specs.Pools.{Pool, Slot, editAt, editSlot, find, findAt, findSlot, free, taken, wipe}
-use Rattle.store.specs.View.{bytesAt, view}
+use Rattle.layout.proofs.Bounds.{bounds, setup-rising}
+use Rattle.slots.proofs.Find.{find-held, find-no-pool, find-no-slot, find-vacant}
+use Rattle.address.specs.Address.{poolOf, slotOf}
+use Rattle.layout.specs.Judge.{Sound}
+use Rattle.layout.specs.Layout.{rowsBefore, sizeAt, slotsAt}
+use Rattle.layout.specs.Limits.{storeFree}
+use Rattle.slots.specs.Pools.{Pool, Slot, find, findAt, findSlot, free, taken}
+use Rattle.store.specs.Edits.{editAt, editSlot, wipe}
+use Rattle.slots.specs.View.{bytesAt, view}
 use Rattle.turn.specs.Turns.{leave, need, packetOf}
 use Rattle.turns_laws.specs.Draining.{Short, largestSlot}
 use borrow.Author.Tests.{eqb-false, eqb-true, ltb-false, ltb-true}
@@ -18,7 +19,7 @@ use mathlib.Core.List.{List, [], _∷_}
 use mathlib.Core.Logic.{⊎-elim}
 use mathlib.Core.Path.{_≡_, refl}
 use native.Mathlib.Omega.{arith}
-use Rattle.store.specs.declared.Setup.{Setup}
+use Rattle.layout.specs.declared.Setup.{Setup}
 
 wipe-slot : (xs : List Slot) (i j : ℕ) → length (packetOf (findSlot (editSlot wipe xs j) i)) ≤ length (packetOf (findSlot xs i))
 wipe-slot [] i j = omega arith

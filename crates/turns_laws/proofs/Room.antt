@@ -5,8 +5,8 @@ use Rattle.log.proofs.Sizes.{size-records}
 use Rattle.log.specs.Log.{LogRecord, records}
 use Rattle.measure.specs.Fitting.{fitting}
 use Rattle.rules.specs.Tests.{unless}
-use Rattle.store.specs.Pools.{Pool, find}
-use Rattle.table.specs.Entries.{Entry}
+use Rattle.slots.specs.Pools.{Pool, find}
+use Rattle.rows.specs.Entries.{Entry}
 use Rattle.turn.specs.Turns.{handed, need}
 use Rattle.handing.specs.Handing.{turns}
 use borrow.Author.Tests.{leb-true}

@@ -3,9 +3,9 @@
 use Prim.Native.Nat.{_+_, _-_, _≤_, min, suc, ℕ}
 use Rattle.measure.specs.Fitting.{fitting}
 use Rattle.rules.specs.Tests.{allOf, unless}
-use Rattle.store.specs.Pools.{Pool, find}
-use Rattle.table.proofs.Order.{below-head, below-not}
-use Rattle.table.specs.Entries.{Entry, time}
+use Rattle.slots.specs.Pools.{Pool, find}
+use Rattle.table.proofs.Before.{below-head, below-not}
+use Rattle.rows.specs.Entries.{Entry, time}
 use Rattle.turn.specs.Turns.{Handout, handed, handout, need, put, stop}
 use Rattle.turns_laws.proofs.Room.{either, fitting-le}
 use Rattle.turns_laws.proofs.Due.{below-drop}

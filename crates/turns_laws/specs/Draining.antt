@@ -1,9 +1,9 @@
 -- Repeated ticks with nothing between them, and the room that they need.
 use Prim.Native.Nat.{_*_, _+_, _-_, _/_, _≤_, suc, zero, ℕ}
-use Rattle.store.specs.Layout.{sizeAt}
-use Rattle.store.specs.Pools.{Pool, findAt}
-use Rattle.store.specs.declared.Setup.{Setup}
-use Rattle.table.specs.Entries.{Entry}
+use Rattle.layout.specs.Layout.{sizeAt}
+use Rattle.slots.specs.Pools.{Pool, findAt}
+use Rattle.layout.specs.declared.Setup.{Setup}
+use Rattle.rows.specs.Entries.{Entry}
 use Rattle.turn.specs.Turns.{Handout, handout, packetOf, stop}
 use lib.ListN.{length}
 use mathlib.Core.Bool.{Bool}

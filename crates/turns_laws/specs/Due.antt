@@ -1,8 +1,8 @@
 -- How many entries are due: at or before the present clock.
 use Prim.Native.Nat.{_+_, suc, ℕ}
 use Rattle.rules.specs.Tests.{unless}
-use Rattle.table.specs.Entries.{Entry, time}
-use Rattle.table.specs.Order.{below}
+use Rattle.rows.specs.Entries.{Entry, time}
+use Rattle.table.specs.Before.{below}
 use lib.Dec.{leb}
 use mathlib.Core.List.{List, [], _∷_}
 

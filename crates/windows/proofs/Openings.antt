@@ -12,9 +12,9 @@ use Rattle.record.specs.declared.ScheduleRefusal.the-variants.{BadTime, Reverse
 use Rattle.rules.proofs.All.{and-left, and-right}
 use Rattle.rules.specs.Papers.{Outcome, done, no, refused}
 use Rattle.rules.specs.Tests.{unless}
-use Rattle.table.specs.Windows.{EndsInRange}
-use Rattle.table.specs.declared.TimeWindow.{TimeWindow}
-use Rattle.table.specs.declared.TimeWindow.the-variants as T
+use Rattle.selection.specs.Windows.{EndsInRange}
+use Rattle.selection.specs.declared.TimeWindow.{TimeWindow}
+use Rattle.selection.specs.declared.TimeWindow.the-variants as T
 use Rattle.time.proofs.Judged.{time-judged}
 use Rattle.time.specs.Time.{InRange, inRange, instant, momentOf}
 use Rattle.time.specs.declared.Moment.{Moment}

@@ -6,10 +6,10 @@ use mathlib.Core.List.{List, [], _∷_}
 use mathlib.Core.Path.{_≡_, _∙_, ap, ap₂, sym}
 use Rattle.record.specs.declared.ScheduleRefusal.{ScheduleRefusal}
 use Rattle.rules.specs.Papers.{no, says}
-use Rattle.table.specs.Entries.{Entry}
-use Rattle.table.specs.Windows.{firstRow, inWindow}
-use Rattle.table.specs.declared.Part.{Part}
-use Rattle.table.specs.declared.TimeWindow.{TimeWindow}
+use Rattle.rows.specs.Entries.{Entry}
+use Rattle.selection.specs.Windows.{firstRow, inWindow}
+use Rattle.selection.specs.declared.Part.{Part}
+use Rattle.selection.specs.declared.TimeWindow.{TimeWindow}
 use Rattle.windows.specs.Answers.{retrievedPaper}
 use Rattle.windows.specs.Inside.{Opens}
 use Rattle.schedule.specs.State.{State}

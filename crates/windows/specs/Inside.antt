@@ -3,8 +3,8 @@ use mathlib.Core.List.{[]}
 use mathlib.Core.Path.{_≡_}
 use Rattle.record.specs.Refusals.{paper}
 use Rattle.rules.specs.Papers.{Outcome, done, refused}
-use Rattle.table.specs.Windows.{EndsInRange}
-use Rattle.table.specs.declared.TimeWindow.{TimeWindow}
+use Rattle.selection.specs.Windows.{EndsInRange}
+use Rattle.selection.specs.declared.TimeWindow.{TimeWindow}
 use Rattle.windows.specs.Windowing.{windowed}
 use Rattle.windows.specs.declared.Opened.{Opened}
 use Rattle.windows.specs.declared.Opened.the-variants as O

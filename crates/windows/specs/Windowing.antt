@@ -5,9 +5,9 @@ use mathlib.Core.Bool.{Bool, _&&_, true}
 use mathlib.Core.List.{[], _∷_}
 use Rattle.rules.specs.Papers.{Outcome, done, no, refused}
 use Rattle.rules.specs.Tests.{unless}
-use Rattle.table.specs.Windows.{firstRow, inWindow}
-use Rattle.table.specs.declared.TimeWindow.{TimeWindow}
-use Rattle.table.specs.declared.TimeWindow.the-variants as T
+use Rattle.selection.specs.Windows.{firstRow, inWindow}
+use Rattle.selection.specs.declared.TimeWindow.{TimeWindow}
+use Rattle.selection.specs.declared.TimeWindow.the-variants as T
 use Rattle.time.specs.Time.{inRange, instant, momentOf}
 use Rattle.schedule.specs.State.{State}
 use Rattle.windows.specs.declared.Window.{Window}

@@ -6,8 +6,8 @@ use crate::open;
 ghost use mathlib.Core.Path.{_≡_};
 ghost use Rattle.rules.specs.Papers.{says};
 ghost use Rattle.schedule.specs.State.{State};
-ghost use Rattle.table.specs.Entries.{unpack};
-ghost use Rattle.table.specs.Order.{Sound as TableSound};
+ghost use Rattle.rows.specs.Entries.{unpack};
+ghost use Rattle.rows.specs.Order.{Sound as TableSound};
 ghost use Rattle.windows.specs.Answers.{retrievedPaper};
 ghost use Rattle.windows.specs.Windowing.{retrieveIn};
 
@@ -18,6 +18,6 @@ pub fn retrieve_by_time_filter(rows: &[u64], count: usize, w: Window) -> Retriev
     let o = open(w);
     match o {
         Opened::Refused(e) => Retrieved::Refused(e),
-        Opened::At(x) => Retrieved::Rows(table::window::rows_in(rows, count, x)),
+        Opened::At(x) => Retrieved::Rows(selection::window::rows_in(rows, count, x)),
     }
 }

@@ -1,13 +1,13 @@
 // Windows of time given as arguments (document 01, module 5): 4 for an end out of range, 15 for a start after the end, and then the window in moments.
 use record::ScheduleRefusal;
-use table::Part;
-use table::TimeWindow;
+use selection::Part;
+use selection::TimeWindow;
 use time::UnixTime;
 ghost use mathlib.Core.Path.{_≡_};
 ghost use mathlib.Core.Bool.{_&&_, true};
 ghost use lib.Dec.{leb};
 ghost use Rattle.time.specs.Time.{InRange, instant};
-ghost use Rattle.table.specs.Windows.{EndsInRange};
+ghost use Rattle.selection.specs.Windows.{EndsInRange};
 ghost use Rattle.windows.specs.Inside.{Opens};
 ghost use Rattle.windows.specs.Windowing.{endsInRange, forward as forwardOf, windowOf};
 

@@ -11,12 +11,12 @@ use Rattle.rules.specs.Papers.{after, no, says}
 use Rattle.rules.specs.Tests.{allOf, unless}
 use Rattle.schedule.specs.State.{State}
 use Rattle.stamp.specs.Stamp.{stampAt, stampOf}
-use Rattle.store.specs.Address.{addressOf, poolOf, slotOf}
-use Rattle.store.specs.Pools.{Pool, findAt, free, taken}
-use Rattle.table.specs.Entries.{Entry}
-use Rattle.table.specs.Order.{below}
+use Rattle.address.specs.Address.{addressOf, poolOf, slotOf}
+use Rattle.slots.specs.Pools.{Pool, findAt, free, taken}
+use Rattle.rows.specs.Entries.{Entry}
+use Rattle.table.specs.Before.{below}
 use Rattle.tick.specs.Tick.{firstLacks, handedOut, tickIn}
-use Rattle.turns.specs.Turns.{handout, leave}
+use Rattle.turn.specs.Turns.{handout, leave}
 use Rattle.time.specs.Time.{earliest, far, inTimeMargin, instant}
 use Rattle.words.specs.Words.{bytesOf, number}
 use Rattle.stamp.specs.declared.Stamp.{Stamp}

@@ -1,7 +1,7 @@
 -- `face_reading::bad_setup` meets its contract.
 -- Assumes nothing.
 use Rattle.rules.specs.Tests.{allOf}
-use Rattle.store.specs.Judge.{setupOk}
+use Rattle.layout.specs.Judge.{setupOk}
 use mathlib.Core.Path.{refl}
 use Rattle.face_reading.proofs.bad_setup.Statement.{statement}
 use Rattle.face_reading.proofs.bad_setup.Tie as tie

@@ -2,7 +2,7 @@
 -- Assumes nothing.
 use Prim.Native.Nat.{_-_}
 use Rattle.measure.proofs.Measuring.{Measuring, measuring-first, measuring-last, measuring-long, measuring-next, measuring-stop}
-use Rattle.store.proofs.Layouts.{setup-few}
+use Rattle.layout.proofs.Layouts.{setup-few}
 use native.Mathlib.Omega.{arith}
 use borrow.Author.Needs.{needs}
 use Rattle.measure.proofs.mark_fitting.Statement.{statement}

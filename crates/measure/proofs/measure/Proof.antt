@@ -1,8 +1,8 @@
 -- `measure::measure` meets its contract.
 -- Assumes nothing.
 use Rattle.measure.proofs.Unmarking.{restored}
-use Rattle.store.proofs.Bounds.{bounds}
-use Rattle.store.proofs.Layouts.{setup-few}
+use Rattle.layout.proofs.Bounds.{bounds}
+use Rattle.layout.proofs.Layouts.{setup-few}
 use borrow.Author.Tests.{not-true}
 use native.Mathlib.Omega.{arith}
 use borrow.Author.Needs.{needs}

@@ -1,6 +1,6 @@
 -- `schedule_answers::retrieved` meets its contract.
 -- Assumes nothing.
-use Rattle.deletions.specs.Answers.{retrievedPaper}
+use Rattle.windows.specs.Answers.{retrievedPaper}
 use Rattle.face_words.proofs.Told.{told, two-is}
 use borrow.Author.Needs.{needs}
 use Rattle.schedule_answers.proofs.retrieved.Statement.{statement}

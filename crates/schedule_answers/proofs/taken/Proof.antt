@@ -1,6 +1,6 @@
 -- `schedule_answers::taken` meets its contract.
 -- Assumes nothing.
-use Rattle.deletions.specs.Answers.{takenPaper}
+use Rattle.by_id.specs.Answers.{takenPaper}
 use Rattle.face_words.proofs.Told.{told}
 use borrow.Author.Needs.{needs}
 use Rattle.schedule_answers.proofs.taken.Statement.{statement}

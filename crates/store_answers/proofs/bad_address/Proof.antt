@@ -1,7 +1,7 @@
 -- `store_answers::bad_address` meets its contract.
 -- Assumes nothing.
 use Rattle.face_words.proofs.Told.{one-is, told}
-use Rattle.store.specs.Refusals.{badPaper}
+use Rattle.lookup.specs.Refusals.{badPaper}
 use borrow.Author.Needs.{needs}
 use Rattle.store_answers.proofs.bad_address.Statement.{statement}
 use Rattle.store_answers.proofs.bad_address.Tie as tie

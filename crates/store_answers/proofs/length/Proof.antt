@@ -1,7 +1,7 @@
 -- `store_answers::length` meets its contract.
 -- Assumes nothing.
 use Rattle.face_words.proofs.Told.{one-is, told}
-use Rattle.store.specs.Refusals.{lengthPaper}
+use Rattle.lookup.specs.Refusals.{lengthPaper}
 use borrow.Author.Needs.{needs}
 use Rattle.store_answers.proofs.length.Statement.{statement}
 use Rattle.store_answers.proofs.length.Tie as tie

@@ -1,7 +1,7 @@
 -- `store_answers::presence` meets its contract.
 -- Assumes nothing.
 use Rattle.face_words.proofs.Told.{one-is, told}
-use Rattle.store.specs.Refusals.{bit, presencePaper}
+use Rattle.lookup.specs.Refusals.{bit, presencePaper}
 use mathlib.Core.Path.{ap, sym}
 use borrow.Author.Needs.{needs}
 use Rattle.store_answers.proofs.presence.Statement.{statement}

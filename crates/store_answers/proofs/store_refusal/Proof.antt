@@ -1,7 +1,7 @@
 -- `store_answers::store_refusal` meets its contract.
 -- Assumes nothing.
 use Rattle.face_words.proofs.Told.{one-is, told, two-is}
-use Rattle.store.specs.Refusals.{paper}
+use Rattle.lookup.specs.Refusals.{paper}
 use borrow.Author.Needs.{needs}
 use Rattle.store_answers.proofs.store_refusal.Statement.{statement}
 use Rattle.store_answers.proofs.store_refusal.Tie as tie

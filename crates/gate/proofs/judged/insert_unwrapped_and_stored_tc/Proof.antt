@@ -5,8 +5,8 @@ use mathlib.Core.Path.{_≡_, _∙_, ap, sym}
 use native.Mathlib.Omega.{arith}
 use borrow.Author.Needs.{needs}
 use borrow.Author.Tests.{not-false, not-true}
-use Rattle.table.specs.Edits.{afterInsert}
-use Rattle.table.specs.Entries.{entryOf}
+use Rattle.table_edit.specs.Edits.{afterInsert}
+use Rattle.rows.specs.Entries.{entryOf}
 use Rattle.time.proofs.Judged.{time-judged}
 use Rattle.time.specs.Time.{inRange}
 use Rattle.time.specs.declared.Moment.{Moment}

@@ -4,8 +4,8 @@ use mathlib.Core.Path.{_∙_, ap, sym}
 use native.Mathlib.Omega.{arith}
 use borrow.Author.Needs.{needs}
 use Rattle.store.specs.Refusals.{addedPaper}
-use Rattle.table.specs.Edits.{afterInsert}
-use Rattle.table.specs.Entries.{entryOf}
+use Rattle.table_edit.specs.Edits.{afterInsert}
+use Rattle.rows.specs.Entries.{entryOf}
 use Rattle.time.specs.declared.Moment.{Moment}
 use Rattle.insertions.specs.Answers.{insertedPaper}
 use Rattle.insertions.proofs.Adding.{enter-done, enter-refused}

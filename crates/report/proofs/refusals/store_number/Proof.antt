@@ -1,5 +1,5 @@
 -- `report::refusals::store_number` meets its contract.
-use Rattle.store.specs.Refusals.{paper}
+use Rattle.lookup.specs.Refusals.{paper}
 use borrow.Author.Needs.{needs}
 use Rattle.report.proofs.refusals.store_number.Statement.{statement}
 use Rattle.report.proofs.refusals.store_number.Tie as tie

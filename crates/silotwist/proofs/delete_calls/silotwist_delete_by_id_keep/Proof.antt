@@ -1,6 +1,6 @@
 -- `silotwist::delete_calls::silotwist_delete_by_id_keep` meets its contract.
 -- Assumes nothing.
-use Rattle.deletions.specs.Deleting.{deleteKeepingIn}
+use Rattle.by_id.specs.ById.{deleteKeepingIn}
 use Rattle.silotwist.specs.ScheduleFace.{countWritten}
 use Rattle.silotwist.proofs.ScheduleCalls.{changes, changes-no-answer, changes-short}
 use borrow.Author.Needs.{needs}

@@ -1,6 +1,6 @@
 -- `silotwist::insert_calls::silotwist_insert_wrapped` meets its contract.
 -- Assumes nothing.
-use Rattle.insertions.specs.Inserting.{insertWrappedIn}
+use Rattle.wrapped.specs.Wrapped.{insertWrappedIn}
 use Rattle.silotwist.specs.ScheduleFace.{countWritten}
 use Rattle.silotwist.proofs.ScheduleCalls.{changes, changes-no-answer, changes-short}
 use borrow.Author.Needs.{needs}

@@ -1,6 +1,6 @@
 -- `silotwist::schedule_calls::silotwist_window` meets its contract.
 -- Assumes nothing.
-use Rattle.deletions.specs.Windowing.{retrieveIn}
+use Rattle.windows.specs.Windowing.{retrieveIn}
 use Rattle.face_reading.specs.Reading.{windowFrom}
 use Rattle.silotwist.proofs.ScheduleCalls.{looks-at, looks-no-answer, looks-short}
 use Rattle.face_reading.proofs.Seconds.{held-time}

@@ -3,7 +3,7 @@
 use Rattle.rules.specs.Papers.{says}
 use Rattle.silotwist.proofs.Parting.{part-found, part-refused}
 use Rattle.silotwist.specs.StoreFace.{partIn}
-use Rattle.store.proofs.Judging.{judging-refused, sound-by}
+use Rattle.store_public.proofs.Judging.{judging-refused, sound-by}
 use borrow.Author.Needs.{needs}
 use Rattle.silotwist.proofs.store_calls.part.Statement.{statement}
 use Rattle.silotwist.proofs.store_calls.part.Tie as tie

@@ -1,6 +1,6 @@
 -- `silotwist::store_calls::silotwist_store_has` meets its contract.
 -- Assumes nothing.
-use Rattle.store.specs.Calls.{hasIn}
+use Rattle.lookup.specs.Calls.{hasIn}
 use Rattle.silotwist.proofs.StoreCalls.{asks, asks-short}
 use borrow.Author.Needs.{needs}
 use Rattle.silotwist.proofs.store_calls.silotwist_store_has.Statement.{statement}

@@ -1,6 +1,6 @@
 -- `silotwist::store_calls::silotwist_store_len` meets its contract.
 -- Assumes nothing.
-use Rattle.store.specs.Calls.{lenIn}
+use Rattle.lookup.specs.Calls.{lenIn}
 use Rattle.silotwist.proofs.StoreCalls.{asks, asks-short}
 use borrow.Author.Needs.{needs}
 use Rattle.silotwist.proofs.store_calls.silotwist_store_len.Statement.{statement}

@@ -1,6 +1,6 @@
 -- `silotwist::store_calls::silotwist_store_modify` meets its contract.
 -- Assumes nothing.
-use Rattle.store.specs.Calls.{packetIn}
+use Rattle.lookup.specs.Calls.{packetIn}
 use Rattle.silotwist.proofs.StoreCalls.{asks, asks-short}
 use borrow.Author.Needs.{needs}
 use Rattle.silotwist.proofs.store_calls.silotwist_store_modify.Statement.{statement}

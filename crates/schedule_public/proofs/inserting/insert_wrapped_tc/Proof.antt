@@ -1,12 +1,12 @@
--- `schedule_api::inserting::insert_wrapped_tc` meets its contract.
+-- `schedule_public::inserting::insert_wrapped_tc` meets its contract.
 -- Assumes nothing.
 use borrow.Author.Needs.{needs}
 use Rattle.insertions.specs.Answers.{insertedPaper}
 use Rattle.wrapped.specs.Wrapped.{insertWrappedIn}
 use Rattle.schedule.proofs.Judging.{sound-by}
 use Rattle.schedule.proofs.Promises.{writes, writes-refused}
-use Rattle.schedule_api.proofs.inserting.insert_wrapped_tc.Statement.{statement}
-use Rattle.schedule_api.proofs.inserting.insert_wrapped_tc.Tie as tie
+use Rattle.schedule_public.proofs.inserting.insert_wrapped_tc.Statement.{statement}
+use Rattle.schedule_public.proofs.inserting.insert_wrapped_tc.Tie as tie
 
 insert-wrapped-tc-requires : tie.Need-insert-wrapped-tc-requires
 insert-wrapped-tc-requires c κs =

@@ -1,12 +1,12 @@
--- `schedule_api::deleting::delete_by_request_id` meets its contract.
+-- `schedule_public::deleting::delete_by_request_id` meets its contract.
 -- Assumes nothing.
 use borrow.Author.Needs.{needs}
 use Rattle.by_id.specs.Answers.{takenPaper}
 use Rattle.by_id.specs.ById.{deleteKeepingIn}
 use Rattle.schedule.proofs.Judging.{sound-by}
 use Rattle.schedule.proofs.Promises.{writes, writes-refused}
-use Rattle.schedule_api.proofs.deleting.delete_by_request_id.Statement.{statement}
-use Rattle.schedule_api.proofs.deleting.delete_by_request_id.Tie as tie
+use Rattle.schedule_public.proofs.deleting.delete_by_request_id.Statement.{statement}
+use Rattle.schedule_public.proofs.deleting.delete_by_request_id.Tie as tie
 
 delete-by-request-id-requires : tie.Need-delete-by-request-id-requires
 delete-by-request-id-requires c κs =

@@ -1,12 +1,12 @@
--- `schedule_api::deleting::delete_by_request_id_and_from_pool` meets its contract.
+-- `schedule_public::deleting::delete_by_request_id_and_from_pool` meets its contract.
 -- Assumes nothing.
 use borrow.Author.Needs.{needs}
 use Rattle.by_id.specs.Answers.{freedPaper}
 use Rattle.by_id.specs.ById.{deleteByIdIn}
 use Rattle.schedule.proofs.Judging.{sound-by}
 use Rattle.schedule.proofs.Promises.{writes, writes-refused}
-use Rattle.schedule_api.proofs.deleting.delete_by_request_id_and_from_pool.Statement.{statement}
-use Rattle.schedule_api.proofs.deleting.delete_by_request_id_and_from_pool.Tie as tie
+use Rattle.schedule_public.proofs.deleting.delete_by_request_id_and_from_pool.Statement.{statement}
+use Rattle.schedule_public.proofs.deleting.delete_by_request_id_and_from_pool.Tie as tie
 
 delete-by-request-id-and-from-pool-requires : tie.Need-delete-by-request-id-and-from-pool-requires
 delete-by-request-id-and-from-pool-requires c κs =

@@ -1,4 +1,4 @@
--- `schedule_api::deleting::retrieve_by_time_filter` meets its contract.
+-- `schedule_public::deleting::retrieve_by_time_filter` meets its contract.
 -- Assumes nothing.
 use mathlib.Core.Path.{_∙_, ap, refl, sym}
 use borrow.Author.Needs.{needs}
@@ -9,8 +9,8 @@ use Rattle.windows.specs.Windowing.{retrieveIn}
 use Rattle.schedule.proofs.Facts.{facts, table-sound}
 use Rattle.schedule.proofs.Judging.{judging-refused, sound-by}
 use Rattle.schedule.proofs.Promises.{judging-fine}
-use Rattle.schedule_api.proofs.deleting.retrieve_by_time_filter.Statement.{statement}
-use Rattle.schedule_api.proofs.deleting.retrieve_by_time_filter.Tie as tie
+use Rattle.schedule_public.proofs.deleting.retrieve_by_time_filter.Statement.{statement}
+use Rattle.schedule_public.proofs.deleting.retrieve_by_time_filter.Tie as tie
 
 retrieve-by-time-filter-requires : tie.Need-retrieve-by-time-filter-requires
 retrieve-by-time-filter-requires c κs =

@@ -1,12 +1,12 @@
--- `schedule_api::inserting::insert_unwrapped_tc` meets its contract.
+-- `schedule_public::inserting::insert_unwrapped_tc` meets its contract.
 -- Assumes nothing.
 use borrow.Author.Needs.{needs}
 use Rattle.insertions.specs.Answers.{insertedPaper}
 use Rattle.insertions.specs.Inserting.{insertUnwrappedIn}
 use Rattle.schedule.proofs.Judging.{sound-by}
 use Rattle.schedule.proofs.Promises.{writes, writes-refused}
-use Rattle.schedule_api.proofs.inserting.insert_unwrapped_tc.Statement.{statement}
-use Rattle.schedule_api.proofs.inserting.insert_unwrapped_tc.Tie as tie
+use Rattle.schedule_public.proofs.inserting.insert_unwrapped_tc.Statement.{statement}
+use Rattle.schedule_public.proofs.inserting.insert_unwrapped_tc.Tie as tie
 
 insert-unwrapped-tc-requires : tie.Need-insert-unwrapped-tc-requires
 insert-unwrapped-tc-requires c κs =

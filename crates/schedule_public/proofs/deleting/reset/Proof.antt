@@ -1,12 +1,12 @@
--- `schedule_api::deleting::reset` meets its contract.
+-- `schedule_public::deleting::reset` meets its contract.
 -- Assumes nothing.
 use borrow.Author.Needs.{needs}
 use Rattle.deletions.specs.Answers.{clearedPaper}
 use Rattle.deletions.specs.Deleting.{resetIn}
 use Rattle.schedule.proofs.Judging.{sound-by}
 use Rattle.schedule.proofs.Promises.{writes, writes-refused}
-use Rattle.schedule_api.proofs.deleting.reset.Statement.{statement}
-use Rattle.schedule_api.proofs.deleting.reset.Tie as tie
+use Rattle.schedule_public.proofs.deleting.reset.Statement.{statement}
+use Rattle.schedule_public.proofs.deleting.reset.Tie as tie
 
 reset-requires : tie.Need-reset-requires
 reset-requires c κs =

@@ -1,12 +1,12 @@
--- `schedule_api::inserting::insert_unwrapped_and_stored_tc` meets its contract.
+-- `schedule_public::inserting::insert_unwrapped_and_stored_tc` meets its contract.
 -- Assumes nothing.
 use borrow.Author.Needs.{needs}
 use Rattle.record.specs.Refusals.{donePaper}
 use Rattle.gate.specs.Entering.{insertStoredIn}
 use Rattle.schedule.proofs.Judging.{sound-by}
 use Rattle.schedule.proofs.Promises.{writes, writes-refused}
-use Rattle.schedule_api.proofs.inserting.insert_unwrapped_and_stored_tc.Statement.{statement}
-use Rattle.schedule_api.proofs.inserting.insert_unwrapped_and_stored_tc.Tie as tie
+use Rattle.schedule_public.proofs.inserting.insert_unwrapped_and_stored_tc.Statement.{statement}
+use Rattle.schedule_public.proofs.inserting.insert_unwrapped_and_stored_tc.Tie as tie
 
 insert-unwrapped-and-stored-tc-requires : tie.Need-insert-unwrapped-and-stored-tc-requires
 insert-unwrapped-and-stored-tc-requires c κs =

@@ -1,12 +1,12 @@
--- `schedule_api::deleting::delete_by_time_filter` meets its contract.
+-- `schedule_public::deleting::delete_by_time_filter` meets its contract.
 -- Assumes nothing.
 use borrow.Author.Needs.{needs}
 use Rattle.deletions.specs.Answers.{clearedPaper}
 use Rattle.deletions.specs.Deleting.{deleteWindowIn}
 use Rattle.schedule.proofs.Judging.{sound-by}
 use Rattle.schedule.proofs.Promises.{writes, writes-refused}
-use Rattle.schedule_api.proofs.deleting.delete_by_time_filter.Statement.{statement}
-use Rattle.schedule_api.proofs.deleting.delete_by_time_filter.Tie as tie
+use Rattle.schedule_public.proofs.deleting.delete_by_time_filter.Statement.{statement}
+use Rattle.schedule_public.proofs.deleting.delete_by_time_filter.Tie as tie
 
 delete-by-time-filter-requires : tie.Need-delete-by-time-filter-requires
 delete-by-time-filter-requires c κs =
