@@ -6,6 +6,7 @@ use mathlib.Core.Bool.{Bool}
 use mathlib.Core.List.{List, [], _∷_}
 use mathlib.Core.Path.{_≡_, _∙_, ap, ap₂, sym}
 use native.Mathlib.Omega.{arith}
+use Rattle.log.specs.Log.{mostLogBytes}
 use Rattle.record.specs.Refusals.{paper}
 use Rattle.record.specs.declared.Record.{Record}
 use Rattle.record.specs.declared.ScheduleRefusal.the-variants.{LogTooSmall}
@@ -146,3 +147,16 @@ module _ {su : Setup} {r : Record} {st le ro : List ℕ} (s : Sound su r st le r
 
 pub due-is : (clock : UnixTime) (m : Moment) (es : List Entry) (d : ℕ) → m ≡ momentOf clock → d ≡ below (instantOf m + 1) es → d ≡ due (instant clock) es
 due-is clock m es d e q = q ∙ rw e
+
+-- what is allowed of what is due lies within the rows, and the log's used part within the log
+pub few-rows : (count d limit n : ℕ) → d ≤ count → n ≡ min d limit → n ≤ count
+few-rows count d limit n h e = omega arith
+
+pub some-rows : (count d limit n m : ℕ) → d ≤ count → n ≡ min d limit → m ≤ n → m ≤ count
+some-rows count d limit n m h e l = omega arith
+
+pub some-due : (d limit n m : ℕ) → n ≡ min d limit → m ≤ n → m ≤ d
+some-due d limit n m e l = omega arith
+
+pub used-part : (long cap : ℕ) → cap ≡ min long mostLogBytes → 8 ≤ long → (8 ≤ cap) × (cap ≤ mostLogBytes) × (cap ≤ long)
+used-part long cap e h = (omega arith, omega arith, omega arith)

@@ -1,6 +1,6 @@
 -- `tick::judged::tick` meets its contract.
 -- Assumes nothing.
-use Rattle.tick.proofs.Ticking.{clock-ok, due-is, moment-ok, rows-held, rows-ok, store-ok, tick-hands, tick-lacks, tick-short}
+use Rattle.tick.proofs.Ticking.{clock-ok, due-is, few-rows, moment-ok, rows-held, rows-ok, some-due, some-rows, store-ok, tick-hands, tick-lacks, tick-short, used-part}
 use native.Mathlib.Omega.{arith}
 use borrow.Author.Needs.{needs}
 use Rattle.tick.proofs.judged.tick.Statement.{statement}
@@ -31,15 +31,26 @@ returns-2 c = let a = c .before .before .before .before .before .before .before 
 
 -- src/judged.rt:49:9
 release-requires : tie.Need-release-requires
-release-requires c κs = (store-ok (c .before .before .before .before .before .before .before .before .before .before .before .before .before .before .before .before .before .before .before .before .before .pre), (rows-held (c .before .before .before .before .before .before .before .before .before .before .before .before .before .before .before .before .before .before .before .before .before .pre), (omega arith, (omega arith, omega arith, omega arith))))
+release-requires c κs =
+    let n = c .before .before .before .before .before .before .before .before .before in
+    let u = n .before in
+    let l = u .before .before .before in
+    let p = l .before .before .before .before .before .before .before .before .pre in
+    (store-ok p, (rows-held p, (few-rows _ _ _ _ (u .up-to .ensures .0) (n .least2 .ensures), used-part _ _ (l .least .ensures) (l .before .before .before .if1 .left))))
 
 -- src/judged.rt:50:16
 sub-rest : tie.Need-sub-rest
-sub-rest c = omega (arith, c .before .before .before .before .before .before .before .before .release .ensures .some)
+sub-rest c =
+    let m = c .before .before .before .before .before .before .before .before in
+    let n = m .before .before .before .before .before .before .before .before .before .before in
+    some-rows _ _ _ _ _ (n .before .up-to .ensures .0) (n .least2 .ensures) (m .release .ensures .some)
 
 -- src/judged.rt:51:18
 sub-remain : tie.Need-sub-remain
-sub-remain c = omega (arith, c .before .before .before .before .before .before .before .before .release .ensures .some)
+sub-remain c =
+    let m = c .before .before .before .before .before .before .before .before in
+    let n = m .before .before .before .before .before .before .before .before .before .before in
+    some-due _ _ _ _ (n .least2 .ensures) (m .release .ensures .some)
 
 -- src/judged.rt:20:1
 returns-3 : tie.Need-returns-3
