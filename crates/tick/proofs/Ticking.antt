@@ -10,7 +10,7 @@ use Rattle.log.specs.Log.{mostLogBytes}
 use Rattle.record.specs.Refusals.{paper}
 use Rattle.record.specs.declared.Record.{Record}
 use Rattle.record.specs.declared.ScheduleRefusal.the-variants.{LogTooSmall}
-use Rattle.rules.specs.Papers.{Outcome, Paper, after, done, into, no, refused}
+use Rattle.rules.specs.Papers.{Paper, after, done, into, no, refused}
 use Rattle.schedule.proofs.Facts.{facts, table-sound}
 use Rattle.schedule.proofs.Promises.{does-done, does-refused}
 use Rattle.schedule.specs.Judge.{Sound}
@@ -26,7 +26,7 @@ use Rattle.table.specs.Before.{below}
 use Rattle.tick.proofs.Lacking.{hands-out, lacks-first, short-log}
 use Rattle.tick.specs.Inside.{lack}
 use Rattle.tick.specs.Promise.{TickDoes, left, tickPaper}
-use Rattle.tick.specs.Tick.{Logged, handedOut, tickIn, usable}
+use Rattle.tick.specs.Tick.{handedOut, tickIn, usable}
 use Rattle.tick.specs.declared.TickAnswer.the-variants.{HandedOut, Refused}
 use Rattle.tick.specs.declared.Ticked.{Ticked}
 use Rattle.time.specs.Time.{InRange, MomentInRange, instant, instantOf, momentOf}

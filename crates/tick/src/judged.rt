@@ -7,7 +7,7 @@ use record::Record;
 use record::ScheduleRefusal;
 use schedule::Setup;
 ghost use mathlib.Core.Path.{_≡_};
-ghost use Prim.Native.Nat.{_≤_, min};
+ghost use Prim.Native.Nat.{min};
 ghost use Rattle.schedule.specs.Judge.{Sound};
 ghost use Rattle.layout.specs.Judge.{Sound as StoreSound};
 ghost use Rattle.slots.specs.View.{view};

@@ -2,7 +2,6 @@
 -- Assumes nothing.
 use Rattle.measure.proofs.Unmarking.{bare-free, bare-low, bare-word}
 use native.Mathlib.Omega.{arith}
-use borrow.Author.Needs.{needs}
 use Rattle.measure.proofs.bare_of.Statement.{statement}
 use Rattle.measure.proofs.bare_of.Tie as tie
 

@@ -4,7 +4,6 @@ use Rattle.tick.specs.Tick.{tickIn}
 use Rattle.tick.specs.Promise.{tickPaper}
 use Rattle.tick.proofs.Promised.{ticks, ticks-refused}
 use Rattle.schedule.proofs.Judging.{sound-by}
-use native.Mathlib.Omega.{arith}
 use borrow.Author.Needs.{needs}
 use Rattle.tick.proofs.tick.Statement.{statement}
 use Rattle.tick.proofs.tick.Tie as tie

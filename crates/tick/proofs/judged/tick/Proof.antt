@@ -1,7 +1,6 @@
 -- `tick::judged::tick` meets its contract.
 -- Assumes nothing.
 use Rattle.tick.proofs.Ticking.{clock-ok, due-is, few-rows, moment-ok, rows-held, rows-ok, some-due, some-rows, store-ok, tick-hands, tick-lacks, tick-short, used-part}
-use native.Mathlib.Omega.{arith}
 use borrow.Author.Needs.{needs}
 use Rattle.tick.proofs.judged.tick.Statement.{statement}
 use Rattle.tick.proofs.judged.tick.Tie as tie
