@@ -98,7 +98,7 @@ unfolding OneOutcome Promised
 one-outcome-each su (freshStart clock margin) t x y u v c d = starts su t x y u v clock margin c d
 one-outcome-each su (request q) t x y u v c d = agree su t x y u v q c d
 
-same-cons : (x y : Answer) (xs ys : List Answer) → x ≡ y → xs ≡ ys → x ∷ xs ≡ y ∷ ys
+pub same-cons : (x y : Answer) (xs ys : List Answer) → x ≡ y → xs ≡ ys → x ∷ xs ≡ y ∷ ys
 same-cons x y xs ys e f = rw (e, f)
 
 all-agree : (su : Setup) (qs : List Request) (t : Lent) (xs ys : List Answer) (u v : Lent) → Runs su qs t xs u → Runs su qs t ys v

@@ -1,4 +1,5 @@
 -- Calls one after another from a fresh start: they answer as the definitions say, none is damaged, and room changes no answer.
+use Rattle.demands.proofs.Agreeing.{same-cons}
 use Rattle.demands.proofs.Following.{Fine, calls-follow, stands}
 use Rattle.demands.specs.Calling.{Begins, Lent, Runs}
 use Rattle.demands.specs.Demands.{AsTheModel, NeverDamaged, NoneDamaged, RoomChangesNoAnswer, SameAsTheModel}
@@ -19,9 +20,6 @@ use mathlib.Core.Bool.{Bool, cond, false, true}
 use mathlib.Core.List.{List, [], _∷_}
 use mathlib.Core.Path.{_∙_, _≡_, ap, refl, subst, sym}
 use native.Mathlib.Omega.{arith}
-
-same-cons : (x y : Answer) (xs ys : List Answer) → x ≡ y → xs ≡ ys → x ∷ xs ≡ y ∷ ys
-same-cons x y xs ys e f = rw (e, f)
 
 runs-follow : (su : Setup) (qs : List Request) (t : Lent) (xs : List Answer) (u : Lent) → AllOfBytes qs → Fine su t → Runs su qs t xs u
     → AsTheModel su qs (stands su t) xs u

@@ -10,7 +10,7 @@ use Rattle.record.specs.Refusals.{paper}
 use Rattle.record.specs.declared.ScheduleRefusal.{ScheduleRefusal}
 use Rattle.record.specs.declared.ScheduleRefusal.the-variants.{BadTime, BadTimestamp, LogTooSmall, NestedScheduledTc, ReleaseTimeInTimeMargin, ReversedWindow, ScheduleFull, Store, TcDataEmpty, TcUnreadable, WrongService, WrongSubservice}
 
-above-zero : (e : ScheduleRefusal) → eqb (paper e .number) 0 ≡ false
+pub above-zero : (e : ScheduleRefusal) → eqb (paper e .number) 0 ≡ false
 unfolding paper
 above-zero (Store e) = store-numbered e
 above-zero BadTime = refl

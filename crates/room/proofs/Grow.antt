@@ -3,6 +3,7 @@ use Prim.Native.Nat.{_<_, suc, zero, ℕ}
 use Rattle.address.specs.Address.{poolOf, slotOf}
 use Rattle.slots.specs.Pools.{Pool, Slot, find, findAt, findSlot, free}
 use Rattle.store.specs.Edits.{edit, editAt, editSlot}
+use Rattle.scheduler.proofs.Subpools.{slots-many}
 use lib.ListN.{length, replicate}
 use mathlib.Core.List.{List, [], _++_, _∷_}
 use mathlib.Core.Path.{_≡_, ap, refl}
@@ -65,15 +66,10 @@ pub edit-grow : (f : Slot → Slot) (ks : List ℕ) (ps : List Pool) (a : ℕ) �
 unfolding Slotted
 edit-grow f ks ps a h = editAt-grow f ks ps (poolOf a) (slotOf a) h
 
-length-editSlot : (f : Slot → Slot) (xs : List Slot) (i : ℕ) → length (editSlot f xs i) ≡ length xs
-length-editSlot f [] i = refl
-length-editSlot f (x ∷ xs) zero = refl
-length-editSlot f (x ∷ xs) (suc i) = ap suc (length-editSlot f xs i)
-
 pub shape-editAt : (f : Slot → Slot) (ps : List Pool) (k i : ℕ) → shape (editAt f ps k i) ≡ shape ps
 unfolding shape editAt
 shape-editAt f [] k i = refl
-shape-editAt f (p ∷ ps) zero i = ap (_∷ shape ps) (length-editSlot f (p .slots) i)
+shape-editAt f (p ∷ ps) zero i = ap (_∷ shape ps) (slots-many f (p .slots) i)
 shape-editAt f (p ∷ ps) (suc k) i = ap (length (p .slots) ∷_) (shape-editAt f ps k i)
 
 pub shape-edit : (f : Slot → Slot) (ps : List Pool) (a : ℕ) → shape (edit f ps a) ≡ shape ps

@@ -18,7 +18,7 @@ use Rattle.deletions.specs.declared.Tally.{Tally}
 use Rattle.insertions.specs.Answers.{insertedPaper}
 use Rattle.insertions.specs.declared.InsertAnswer.the-variants as I
 use Rattle.insertions.specs.declared.InsertAnswer.{InsertAnswer}
-use Rattle.record.proofs.Numbers.{numbered}
+use Rattle.record.proofs.Numbers.{above-zero}
 use Rattle.record.specs.Refusals.{donePaper, paper, wordOf}
 use Rattle.record.specs.declared.Done.the-variants as D
 use Rattle.record.specs.declared.Done.{Done}
@@ -39,11 +39,10 @@ use Rattle.slots.specs.declared.StoreRefusal.{StoreRefusal}
 use Rattle.store_laws.proofs.Back.{back as storeBack, there-and-back as store-there-and-back}
 use Rattle.time.specs.declared.Margin.{Margin}
 use Rattle.time.specs.declared.UnixTime.{UnixTime}
-use borrow.Author.Tests.{ne-eqb}
 use lib.Dec.{eqb}
 use lib.IntN.{negsuc, pos, ℤ}
 use lib.ListN.{drop, getD}
-use mathlib.Core.Bool.{cond, false}
+use mathlib.Core.Bool.{cond}
 use mathlib.Core.List.{List}
 use mathlib.Core.Path.{_∙_, _≡_, ap, refl}
 use mir.Facts.{toZ-ofZ}
@@ -118,9 +117,6 @@ there-and-back ScheduleFull w = refl
 there-and-back ReversedWindow w = refl
 there-and-back (LogTooSmall t) w = refl
 
-no-answer : (e : ScheduleRefusal) → eqb (paper e .number) 0 ≡ false
-no-answer e = ne-eqb (paper e .number) 0 (numbered e)
-
 -- ---- the answers of each call
 
 pub doneOf : Paper → Done
@@ -129,7 +125,7 @@ doneOf p = cond (eqb (p .number) 0) D.Ok (D.Refused (back p))
 pub done-back : (a : Done) → Inside D.Refused a → doneOf (donePaper a) ≡ a
 unfolding doneOf donePaper
 done-back D.Ok w = refl
-done-back (D.Refused e) w = rw (no-answer e, there-and-back e (w e refl))
+done-back (D.Refused e) w = rw (above-zero e, there-and-back e (w e refl))
 
 pub verdictOf : Paper → Verdict
 verdictOf p = cond (eqb (p .number) 0) Ve.Fine (Ve.Refused (back p))
@@ -137,7 +133,7 @@ verdictOf p = cond (eqb (p .number) 0) Ve.Fine (Ve.Refused (back p))
 pub verdict-back : (a : Verdict) → Inside Ve.Refused a → verdictOf (verdictPaper a) ≡ a
 unfolding verdictOf verdictPaper
 verdict-back Ve.Fine w = refl
-verdict-back (Ve.Refused e) w = rw (no-answer e, there-and-back e (w e refl))
+verdict-back (Ve.Refused e) w = rw (above-zero e, there-and-back e (w e refl))
 
 pub countedOf : Paper → Counted
 countedOf p = cond (eqb (p .number) 0) (Co.Count (getD (p .values) 0 0)) (Co.Refused (back p))
@@ -145,7 +141,7 @@ countedOf p = cond (eqb (p .number) 0) (Co.Count (getD (p .values) 0 0)) (Co.Ref
 pub counted-back : (a : Counted) → Inside Co.Refused a → countedOf (countedPaper a) ≡ a
 unfolding countedOf countedPaper
 counted-back (Co.Count n) w = refl
-counted-back (Co.Refused e) w = rw (no-answer e, there-and-back e (w e refl))
+counted-back (Co.Refused e) w = rw (above-zero e, there-and-back e (w e refl))
 
 pub retrievedOf : Paper → Retrieved
 retrievedOf p = cond (eqb (p .number) 0) (R.Rows (record { first = getD (p .values) 0 0; number = getD (p .values) 1 0 })) (R.Refused (back p))
@@ -153,7 +149,7 @@ retrievedOf p = cond (eqb (p .number) 0) (R.Rows (record { first = getD (p .valu
 pub retrieved-back : (a : Retrieved) → Inside R.Refused a → retrievedOf (retrievedPaper a) ≡ a
 unfolding retrievedOf retrievedPaper
 retrieved-back (R.Rows x) w = refl
-retrieved-back (R.Refused e) w = rw (no-answer e, there-and-back e (w e refl))
+retrieved-back (R.Refused e) w = rw (above-zero e, there-and-back e (w e refl))
 
 pub insertedOf : Paper → InsertAnswer
 insertedOf p = cond (eqb (p .number) 0)
@@ -162,7 +158,7 @@ insertedOf p = cond (eqb (p .number) 0)
 pub inserted-back : (a : InsertAnswer) → Inside I.Refused a → insertedOf (insertedPaper a) ≡ a
 unfolding insertedOf insertedPaper
 inserted-back (I.Inserted x) w = refl
-inserted-back (I.Refused e) w = rw (no-answer e, there-and-back e (w e refl))
+inserted-back (I.Refused e) w = rw (above-zero e, there-and-back e (w e refl))
 
 lastOf : Paper → Last
 lastOf p = cond (eqb (p .number) 0) La.None (La.Missing (storeBack p))
@@ -181,7 +177,7 @@ clearedOf p = cond (eqb (p .number) 0) (Cl.Done (tallyOf (p .values))) (Cl.Refus
 pub cleared-back : (a : ClearAnswer) → Inside Cl.Refused a → clearedOf (clearedPaper a) ≡ a
 unfolding clearedOf clearedPaper tallyOf
 cleared-back (Cl.Done t) w = ap (λ (l : Last). Cl.Done (record { deleted = t .deleted; missing = t .missing; last = l })) (last-back (t .last))
-cleared-back (Cl.Refused e) w = rw (no-answer e, there-and-back e (w e refl))
+cleared-back (Cl.Refused e) w = rw (above-zero e, there-and-back e (w e refl))
 
 -- by request ID: the first value says whether there was a match
 pub takenOf : Paper → TakeAnswer
@@ -191,7 +187,7 @@ pub taken-back : (a : TakeAnswer) → Inside Ta.Refused a → takenOf (takenPape
 unfolding takenOf takenPaper
 taken-back Ta.NoMatch w = refl
 taken-back (Ta.Address a) w = refl
-taken-back (Ta.Refused e) w = rw (no-answer e, there-and-back e (w e refl))
+taken-back (Ta.Refused e) w = rw (above-zero e, there-and-back e (w e refl))
 
 -- and the second whether the packet was there
 matchOf : List ℕ → FreeAnswer
@@ -205,4 +201,4 @@ unfolding freedOf freedPaper matchOf
 freed-back F.NoMatch w = refl
 freed-back F.Deleted w = refl
 freed-back (F.Missing e) w = ap F.Missing (store-there-and-back e)
-freed-back (F.Refused e) w = rw (no-answer e, there-and-back e (w e refl))
+freed-back (F.Refused e) w = rw (above-zero e, there-and-back e (w e refl))

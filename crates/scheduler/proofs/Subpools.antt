@@ -26,7 +26,7 @@ slots-fit f z h [] i a = a
 slots-fit f z h (x ∷ xs) zero a = (h x (a .0), a .1)
 slots-fit f z h (x ∷ xs) (suc i) a = (a .0, slots-fit f z h xs i (a .1))
 
-slots-many : (f : Slot → Slot) (xs : List Slot) (i : ℕ) → length (editSlot f xs i) ≡ length xs
+pub slots-many : (f : Slot → Slot) (xs : List Slot) (i : ℕ) → length (editSlot f xs i) ≡ length xs
 slots-many f [] i = refl
 slots-many f (x ∷ xs) zero = refl
 slots-many f (x ∷ xs) (suc i) = ap suc (slots-many f xs i)
