@@ -15,16 +15,15 @@ use Rattle.table.specs.Before.{below}
 use Rattle.tick.proofs.Lacking.{hands-out, lack-fits, lack-none}
 use Rattle.tick.specs.Inside.{lack}
 use Rattle.tick.specs.Tick.{handedOut, tickIn, usable}
-use Rattle.turns_laws.specs.Due.{due}
 use Rattle.time.specs.Time.{instant}
 use Rattle.time.specs.declared.UnixTime.{UnixTime}
 use Rattle.turns.specs.Released.{firstTotal}
 use Rattle.turn.specs.Turns.{Handout, always, handout, leave}
 use Rattle.turns_laws.proofs.Drains.{one-hands, short-handout, up}
-use Rattle.turns_laws.proofs.Due.{below-drop}
 use Rattle.turns_laws.proofs.Packets.{short-need, sound-short}
-use Rattle.turns_laws.proofs.Split.{splits}
-use Rattle.turns_laws.specs.Draining.{Short, largestSlot, roundedUp}
+use Rattle.turns_laws.proofs.Split.{left-due}
+use Rattle.turns_laws.specs.Draining.{Short, largestSlot, roomFor, roundedUp}
+use Rattle.turns_laws.specs.Due.{due}
 use lib.ListN.{length}
 use mathlib.Core.Bool.{Bool}
 use mathlib.Core.List.{List, [], _∷_}
@@ -40,7 +39,7 @@ ticks k del (log ∷ logs) = tick k del log ∷ ticks k del logs
 -- the used part of each has room for k records with packets of `big` bytes
 abbrev pub AllAmple : ℕ → ℕ → List (List ℕ) → Type 0
 AllAmple k big [] = Unit {0}
-AllAmple k big (log ∷ logs) = (8 + k * (21 + big) ≤ usable log) × AllAmple k big logs
+AllAmple k big (log ∷ logs) = (roomFor k big ≤ usable log) × AllAmple k big logs
 
 -- none is a refusal
 abbrev pub AllDone : List Answer → Type 0
@@ -52,7 +51,7 @@ module _ (su : Setup) (big k : ℕ) (del : Bool) (some : 1 ≤ k) where
   first-small [] ps h = omega arith
   first-small (e ∷ es) ps h = omega (arith, short-need big ps (e .addr) h)
 
-  module _ (log : List ℕ) (s : State) (ample : 8 + k * (21 + big) ≤ usable log) (short : Short big (s .pools)) where
+  module _ (log : List ℕ) (s : State) (ample : roomFor k big ≤ usable log) (short : Short big (s .pools)) where
     out : Handout
     out = handout (leave del) (always (s .enabled)) (instant (s .clock)) k 8 (usable log) (s .entries) (s .pools)
 
@@ -67,7 +66,7 @@ module _ (su : Setup) (big k : ℕ) (del : Bool) (some : 1 ≤ k) where
 
     goes : tickIn k del log s ≡ handedOut log s out
     unfolding out
-    goes = hands-out k del log s 0 (omega (arith, room)) (none-lacks (min (due (s .clock) (s .entries)) k)) (omega arith)
+    goes = hands-out k del log s 0 (omega (arith, room)) (none-lacks (min (due (instant (s .clock)) (s .entries)) k)) (omega arith)
 
     after-tick : step su (tick k del log) s .state ≡ withEntries (out .left) (withPools (out .pools) s)
     unfolding step ticked after handedOut
@@ -77,19 +76,19 @@ module _ (su : Setup) (big k : ℕ) (del : Bool) (some : 1 ≤ k) where
     unfolding step ticked says handedOut
     is-done = rw goes
 
-    due-after : due (s .clock) (out .left) ≡ due (s .clock) (s .entries) - min k (due (s .clock) (s .entries))
+    due-after : due (instant (s .clock)) (out .left) ≡ due (instant (s .clock)) (s .entries) - min k (due (instant (s .clock)) (s .entries))
     unfolding out
     due-after =
-        let x = splits (leave del) (always (s .enabled)) (instant (s .clock)) k 8 (usable log) (s .entries) (s .pools) in
-        let o = one-hands big del (always (s .enabled)) (instant (s .clock)) k (usable log) ample (s .entries) (s .pools) short in
-        rw (x .left-is, o) (below-drop (instant (s .clock) + 1) (min k (due (s .clock) (s .entries))) (s .entries) (omega arith))
+        left-due (leave del) (always (s .enabled)) (instant (s .clock)) k 8 (usable log) (s .entries) (s .pools)
+        ∙ ap (λ (x : ℕ). due (instant (s .clock)) (s .entries) - x)
+        (one-hands big del (always (s .enabled)) (instant (s .clock)) k (usable log) ample (s .entries) (s .pools) short)
 
     short-after : Short big (out .pools)
     unfolding out
     short-after = short-handout big del (always (s .enabled)) (instant (s .clock)) k 8 (usable log) (s .entries) (s .pools) short
 
   record Drained (s : State) (logs : List (List ℕ)) : Type 0 where
-    left : due (s .clock) (run su (ticks k del logs) s .state .entries) ≡ due (s .clock) (s .entries) - length logs * k
+    left : due (instant (s .clock)) (run su (ticks k del logs) s .state .entries) ≡ due (instant (s .clock)) (s .entries) - length logs * k
     done : AllDone (run su (ticks k del logs) s .answers)
 
   drain : (logs : List (List ℕ)) (s : State) → AllAmple k big logs → Short big (s .pools) → Drained s logs
@@ -114,7 +113,7 @@ module _ (su : Setup) (r : Record) (st le ro : List ℕ) (s : Sound su r st le r
   pub none-refused : AllDone (run su (ticks k del logs) (stateOf su r st le ro) .answers)
   none-refused = whole .done
 
-  pub all-handed-out : roundedUp (due (r .clock) (stateOf su r st le ro .entries)) k ≤ length logs
-      → due (r .clock) (run su (ticks k del logs) (stateOf su r st le ro) .state .entries) ≡ 0
+  pub all-handed-out : roundedUp (due (instant (r .clock)) (stateOf su r st le ro .entries)) k ≤ length logs
+      → due (instant (r .clock)) (run su (ticks k del logs) (stateOf su r st le ro) .state .entries) ≡ 0
   unfolding stateOf
-  all-handed-out l = whole .left ∙ omega (arith, up (due (r .clock) (stateOf su r st le ro .entries)) k (length logs) some l)
+  all-handed-out l = whole .left ∙ omega (arith, up (due (instant (r .clock)) (stateOf su r st le ro .entries)) k (length logs) some l)
