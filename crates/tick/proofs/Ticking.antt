@@ -155,8 +155,5 @@ few-rows count d limit n h e = omega arith
 pub some-rows : (count d limit n m : ℕ) → d ≤ count → n ≡ min d limit → m ≤ n → m ≤ count
 some-rows count d limit n m h e l = omega arith
 
-pub some-due : (d limit n m : ℕ) → n ≡ min d limit → m ≤ n → m ≤ d
-some-due d limit n m e l = omega arith
-
 pub used-part : (long cap : ℕ) → cap ≡ min long mostLogBytes → 8 ≤ long → (8 ≤ cap) × (cap ≤ mostLogBytes) × (cap ≤ long)
 used-part long cap e h = (omega arith, omega arith, omega arith)

@@ -1,6 +1,7 @@
 -- `tick::judged::tick` meets its contract.
 -- Assumes nothing.
-use Rattle.tick.proofs.Ticking.{clock-ok, due-is, few-rows, moment-ok, rows-held, rows-ok, some-due, some-rows, store-ok, tick-hands, tick-lacks, tick-short, used-part}
+use Rattle.tick.proofs.Ticking.{clock-ok, due-is, few-rows, moment-ok, rows-held, rows-ok, some-rows, store-ok, tick-hands, tick-lacks, tick-short, used-part}
+use native.Mathlib.Omega.{arith}
 use borrow.Author.Needs.{needs}
 use Rattle.tick.proofs.judged.tick.Statement.{statement}
 use Rattle.tick.proofs.judged.tick.Tie as tie
@@ -46,10 +47,7 @@ sub-rest c =
 
 -- src/judged.rt:51:18
 sub-remain : tie.Need-sub-remain
-sub-remain c =
-    let m = c .before .before .before .before .before .before .before .before in
-    let n = m .before .before .before .before .before .before .before .before .before .before in
-    some-due _ _ _ _ (n .least2 .ensures) (m .release .ensures .some)
+sub-remain c = omega (arith, c .before .before .before .before .before .before .before .before .release .ensures .some)
 
 -- src/judged.rt:20:1
 returns-3 : tie.Need-returns-3
