@@ -1,15 +1,13 @@
 // A request to the proved library: the number that it returns; its answer's words, and the bytes that it hands out, are in what it is lent.
-use crate::kinds;
 use crate::store_asks;
+use oracle_words::kinds;
+use oracle_words::records::GROUND;
 use silotwist::delete_calls;
 use silotwist::insert_calls;
 use silotwist::record_calls;
 use silotwist::schedule_calls;
 use silotwist::tick_call;
 use text::line;
-
-// What a buffer holds before a call.
-pub const GROUND: u8 = 238;
 
 pub fn ask(
     k: usize,
@@ -22,25 +20,31 @@ pub fn ask(
     bytes: &mut [u8],
     answer: &mut [u64; 8],
 ) -> u32 {
-    if k < kinds::WRAPPEDL - 1 {
-        return start(k, text, setup, record, store, lens, rows, answer);
+    if k > kinds::RELEASE {
+        return store_asks::ask(k, text, setup, store, lens, bytes, answer);
     }
-    if k <= kinds::STORED {
+    if k < kinds::WINDOW {
+        return given(k, text, setup, record, store, lens, rows, bytes, answer);
+    }
+    taken(k, text, setup, record, store, lens, rows, bytes, answer)
+}
+
+// What starts a schedule, adds to it or sets its record.
+fn given(
+    k: usize,
+    text: &[u8],
+    setup: &[u64],
+    record: &mut [u64],
+    store: &mut [u8],
+    lens: &mut [u16],
+    rows: &mut [u64],
+    bytes: &mut [u8],
+    answer: &mut [u64],
+) -> u32 {
+    if k > kinds::NUM {
         return insert(k, text, setup, record, store, lens, rows, bytes, answer);
     }
-    if k < kinds::RESET {
-        return window(k, text, setup, record, store, lens, rows, answer);
-    }
-    if k < kinds::RELEASE {
-        return delete(k, text, setup, record, store, lens, rows, answer);
-    }
-    if k >= kinds::DUMP {
-        return 0;
-    }
-    if k == kinds::RELEASE {
-        return release(text, setup, record, store, lens, rows, bytes, answer);
-    }
-    store_asks::ask(k, text, setup, store, lens, bytes, answer)
+    start(k, text, setup, record, store, lens, rows, answer)
 }
 
 fn start(
@@ -54,16 +58,18 @@ fn start(
     answer: &mut [u64],
 ) -> u32 {
     if k == kinds::NEW {
+        let clock = line::time(text, 3);
+        let margin = line::margin(text, 5);
         return schedule_calls::silotwist_fresh(
             setup,
             record,
             store,
             lens,
             rows,
-            line::signed(text, 3),
-            line::long(text, 4),
-            line::number(text, 5),
-            line::long(text, 6),
+            clock.secs,
+            clock.nanos,
+            margin.secs,
+            margin.nanos,
             answer,
         );
     }
@@ -75,12 +81,8 @@ fn start(
 
 fn change(k: usize, text: &[u8], record: &mut [u64], answer: &mut [u64]) -> u32 {
     if k == kinds::CLOCK {
-        return record_calls::silotwist_set_clock(
-            record,
-            line::signed(text, 1),
-            line::long(text, 2),
-            answer,
-        );
+        let t = line::time(text, 1);
+        return record_calls::silotwist_set_clock(record, t.secs, t.nanos, answer);
     }
     if k == kinds::ENABLE {
         return record_calls::silotwist_enable(record, answer);
@@ -112,8 +114,7 @@ fn insert(
             answer,
         );
     }
-    let secs = line::signed(text, 1);
-    let nanos = line::long(text, 2);
+    let t = line::time(text, 1);
     if k <= kinds::UNWRAPPEDT {
         let n = line::bytes(text, 3, bytes);
         return insert_calls::silotwist_insert_unwrapped(
@@ -122,8 +123,8 @@ fn insert(
             store,
             lens,
             rows,
-            secs,
-            nanos,
+            t.secs,
+            t.nanos,
             &bytes[..n],
             answer,
         );
@@ -134,12 +135,61 @@ fn insert(
         store,
         lens,
         rows,
-        secs,
-        nanos,
+        t.secs,
+        t.nanos,
         line::number(text, 3),
         line::number(text, 4),
         answer,
     )
+}
+
+// Windows, deletions and releases.
+fn taken(
+    k: usize,
+    text: &[u8],
+    setup: &[u64],
+    record: &mut [u64],
+    store: &mut [u8],
+    lens: &mut [u16],
+    rows: &mut [u64],
+    bytes: &mut [u8],
+    answer: &mut [u64],
+) -> u32 {
+    if k < kinds::RESET {
+        return window(k, text, setup, record, store, lens, rows, answer);
+    }
+    if k < kinds::RELEASE {
+        return delete(k, text, setup, record, store, lens, rows, answer);
+    }
+    release(text, setup, record, store, lens, rows, bytes, answer)
+}
+
+fn delete(
+    k: usize,
+    text: &[u8],
+    setup: &[u64],
+    record: &mut [u64],
+    store: &mut [u8],
+    lens: &mut [u16],
+    rows: &mut [u64],
+    answer: &mut [u64],
+) -> u32 {
+    if k == kinds::RESET {
+        return schedule_calls::silotwist_reset(setup, record, store, lens, rows, answer);
+    }
+    let id = line::number(text, 1);
+    if k == kinds::DELID {
+        return delete_calls::silotwist_delete_by_id_keep(
+            setup,
+            record,
+            store,
+            lens,
+            rows,
+            id,
+            answer,
+        );
+    }
+    delete_calls::silotwist_delete_by_id(setup, record, store, lens, rows, id, answer)
 }
 
 // Kinds 0 all, 1 from-to, 2 from, 3 to; the deletion of all has none.
@@ -156,6 +206,8 @@ fn window(
     let w = line::number(text, 1);
     let has_from = either(w, 1, 2);
     let has_to = either(w, 1, 3);
+    let from = line::time(text, 2);
+    let to = line::time(text, 4);
     if k == kinds::WINDOW {
         return schedule_calls::silotwist_window(
             setup,
@@ -164,11 +216,11 @@ fn window(
             lens,
             rows,
             has_from,
-            line::signed(text, 2),
-            line::long(text, 3),
+            from.secs,
+            from.nanos,
             has_to,
-            line::signed(text, 4),
-            line::long(text, 5),
+            to.secs,
+            to.nanos,
             answer,
         );
     }
@@ -179,11 +231,11 @@ fn window(
         lens,
         rows,
         has_from,
-        line::signed(text, 2),
-        line::long(text, 3),
+        from.secs,
+        from.nanos,
         has_to,
-        line::signed(text, 4),
-        line::long(text, 5),
+        to.secs,
+        to.nanos,
         answer,
     )
 }
@@ -193,34 +245,6 @@ fn either(w: u64, a: u64, b: u64) -> bool {
         return true;
     }
     w == b
-}
-
-fn delete(
-    k: usize,
-    text: &[u8],
-    setup: &[u64],
-    record: &mut [u64],
-    store: &mut [u8],
-    lens: &mut [u16],
-    rows: &mut [u64],
-    answer: &mut [u64],
-) -> u32 {
-    let id = line::number(text, 1);
-    if k == kinds::RESET {
-        return schedule_calls::silotwist_reset(setup, record, store, lens, rows, answer);
-    }
-    if k == kinds::DELID {
-        return delete_calls::silotwist_delete_by_id_keep(
-            setup,
-            record,
-            store,
-            lens,
-            rows,
-            id,
-            answer,
-        );
-    }
-    delete_calls::silotwist_delete_by_id(setup, record, store, lens, rows, id, answer)
 }
 
 // Limit and log are ample. "k" keeps the packets; "d", and "b" with a buffer of the original's, delete them.

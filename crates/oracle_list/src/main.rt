@@ -1,14 +1,13 @@
 // The original's answers, replayed: each line's request goes to the proved library, and all that it answers and hands out is compared with what the original did.
-mod answers;
 mod asks;
-mod kinds;
-mod records;
-mod said;
-mod slots;
 mod store_asks;
 mod tally;
 
+use oracle_words::answers;
+use oracle_words::kinds;
+use oracle_words::states;
 use tally::CELLS;
+use tally::Line;
 use text::line;
 use text::out;
 ghost use mathlib.Core.Path.{_≡_};
@@ -44,24 +43,82 @@ fn replay(text: &[u8], names: &[u8], cells: &mut [u64; CELLS]) {
     let mut lens = [60000u16; 300];
     let mut rows = [77u64; 64];
     let mut bytes = [0u8; 8192];
-    let mut said = [0u8; 16384];
     let mut at: usize = 0;
     while at < text.len() {
         let end = line::end(text, at, b'\n');
-        one(
+        let l = one(
+            line::which(&text[at..end], 0, names),
             &text[at..end],
-            names,
             &mut setup,
             &mut record,
             &mut store,
             &mut lens,
             &mut rows,
             &mut bytes,
-            &mut said,
-            cells,
         );
+        tally::add(cells, l);
         at = end + 1;
     }
+}
+
+// A request, and from the arrow on what the original answered.
+fn one(
+    k: usize,
+    text: &[u8],
+    setup: &mut [u64],
+    record: &mut [u64; 6],
+    store: &mut [u8],
+    lens: &mut [u16],
+    rows: &mut [u64],
+    bytes: &mut [u8],
+) -> Line {
+    let arrow = line::end(text, 0, b'=');
+    set_up(k, &text[0..arrow], setup);
+    let w = setup_words(setup);
+    if k >= kinds::DUMP {
+        let same = states::shown(k, text, arrow, &setup[0..w], record, store, lens, rows);
+        return tally::of(k, 0, same);
+    }
+    asked(
+        k,
+        text,
+        arrow,
+        &setup[0..w],
+        record,
+        store,
+        lens,
+        rows,
+        bytes,
+    )
+}
+
+fn asked(
+    k: usize,
+    text: &[u8],
+    arrow: usize,
+    setup: &[u64],
+    record: &mut [u64],
+    store: &mut [u8],
+    lens: &mut [u16],
+    rows: &mut [u64],
+    bytes: &mut [u8],
+) -> Line
+    requires { ⌜ arrow ≤ length (now text) ⌝ }
+{
+    let mut words = [0u64; 8];
+    let number = asks::ask(
+        k,
+        &text[0..arrow],
+        setup,
+        record,
+        store,
+        lens,
+        rows,
+        bytes,
+        &mut words,
+    );
+    let same = answers::told(k, text, arrow, number, &words, rows, bytes);
+    tally::of(k, number, same)
 }
 
 // A new sequence has its own setup.
@@ -81,7 +138,7 @@ fn setup_word(text: &[u8], i: usize) -> u64 {
     match i {
         0 => pools(text),
         1 | 2 => line::number(text, i),
-        _ => line::number(text, records::next(i, 4)),
+        _ => line::number(text, std::num::wrapping_add_usize(i, 4)),
     }
 }
 
@@ -108,91 +165,4 @@ fn setup_words(setup: &[u64]) -> usize
         return 0;
     }
     pools as usize * 2 + 3
-}
-
-// A request, and from the arrow on what the original answered.
-fn one(
-    text: &[u8],
-    names: &[u8],
-    setup: &mut [u64],
-    record: &mut [u64; 6],
-    store: &mut [u8],
-    lens: &mut [u16],
-    rows: &mut [u64],
-    bytes: &mut [u8],
-    said: &mut [u8],
-    cells: &mut [u64; CELLS],
-) {
-    let arrow = line::end(text, 0, b'=');
-    let k = line::which(text, 0, names);
-    set_up(k, &text[0..arrow], setup);
-    let n = answer(
-        k,
-        &text[0..arrow],
-        setup,
-        record,
-        store,
-        lens,
-        rows,
-        bytes,
-        said,
-        cells,
-    );
-    judge(k, text, arrow, said, n, cells);
-}
-
-// Puts what the library answers into `said`, and gives back how long that is.
-fn answer(
-    k: usize,
-    text: &[u8],
-    setup: &[u64],
-    record: &mut [u64; 6],
-    store: &mut [u8],
-    lens: &mut [u16],
-    rows: &mut [u64],
-    bytes: &mut [u8],
-    said: &mut [u8],
-    cells: &mut [u64; CELLS],
-) -> usize {
-    let mut words = [0u64; 8];
-    let w = setup_words(setup);
-    let number = asks::ask(
-        k,
-        text,
-        &setup[0..w],
-        record,
-        store,
-        lens,
-        rows,
-        bytes,
-        &mut words,
-    );
-    tally::answered(cells, k, number);
-    answers::told(
-        k,
-        text,
-        number,
-        &words,
-        &setup[0..w],
-        record,
-        store,
-        lens,
-        rows,
-        bytes,
-        said,
-    )
-}
-
-// A line whose first word is none of the calls differs too.
-fn judge(k: usize, text: &[u8], arrow: usize, said: &[u8], n: usize, cells: &mut [u64; CELLS]) {
-    tally::count(cells, tally::LINES);
-    if k < kinds::UNKNOWN {
-        if said::ends(text, arrow, said, n) {
-            return;
-        }
-    }
-    tally::count(cells, tally::DIFFERENT);
-    out::say(text);
-    out::say(b"\n  here ");
-    said::shown(said, n);
 }

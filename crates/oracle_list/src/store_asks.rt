@@ -1,9 +1,8 @@
 // The store's requests.
 use crate::asks;
-use crate::kinds;
+use oracle_words::kinds;
 use silotwist::store_calls;
 use text::line;
-ghost use Prim.Native.Nat.{_≤_};
 
 pub fn ask(
     k: usize,
@@ -14,24 +13,28 @@ pub fn ask(
     bytes: &mut [u8],
     answer: &mut [u64; 8],
 ) -> u32 {
-    let address = line::number(text, 1);
     if k == kinds::ADD {
         let n = line::bytes(text, 1, bytes);
         return store_calls::silotwist_store_add(setup, store, lens, &bytes[..n], answer);
     }
+    if k == kinds::READ {
+        return read(text, setup, store, lens, bytes, answer);
+    }
+    at(k, text, setup, store, lens, line::number(text, 1), answer)
+}
+
+// What is asked of an address.
+fn at(
+    k: usize,
+    text: &[u8],
+    setup: &[u64],
+    store: &mut [u8],
+    lens: &mut [u16],
+    address: u64,
+    answer: &mut [u64; 8],
+) -> u32 {
     if k == kinds::DELETE {
         return store_calls::silotwist_store_delete(setup, store, lens, address, answer);
-    }
-    if k == kinds::READ {
-        return read(
-            setup,
-            store,
-            lens,
-            address,
-            line::index(text, 2),
-            bytes,
-            answer,
-        );
     }
     if k == kinds::MODIFY {
         return modify(text, setup, store, lens, address, answer);
@@ -42,24 +45,18 @@ pub fn ask(
     store_calls::silotwist_store_len(setup, store, lens, address, answer)
 }
 
-pub fn least(a: usize, most: usize) -> usize
-    ensures { λ r. ⌜ r ≤ most ⌝ }
-{
-    if a <= most { a } else { most }
-}
-
 fn read(
+    text: &[u8],
     setup: &[u64],
     store: &[u8],
     lens: &[u16],
-    address: u64,
-    n: usize,
     bytes: &mut [u8],
     answer: &mut [u64],
 ) -> u32 {
     asks::fill(bytes);
-    let m = least(n, bytes.len());
-    store_calls::silotwist_store_read(setup, store, lens, address, &mut bytes[0..m], answer)
+    let address = line::number(text, 1);
+    let n = line::part(text, 2, bytes.len());
+    store_calls::silotwist_store_read(setup, store, lens, address, &mut bytes[0..n], answer)
 }
 
 // Without a second word the bytes stay as they are; with one they are rewritten through the lent part.
@@ -90,7 +87,7 @@ fn rewrite(store: &mut [u8], from: usize, len: usize, by: u8) {
     if from > store.len() {
         return;
     }
-    let n = least(len, store.len() - from);
+    let n = line::least(len, store.len() - from);
     let mut place: u8 = by;
     let mut i: usize = 0;
     while i < n {

@@ -1,17 +1,45 @@
 // How often each answer was compared, by call and document 01's number, and how many lines differ.
-use crate::kinds;
+use oracle_words::kinds;
 use text::line;
 use text::out;
 ghost use Prim.Native.Nat.{_<_};
 
 // A row of 21 numbers for each call, one for all of them, and behind them the lines and the differences.
-pub const LINES: usize = 546;
+const LINES: usize = 546;
 
-pub const DIFFERENT: usize = 547;
+const DIFFERENT: usize = 547;
 
 pub const CELLS: usize = 548;
 
-pub fn count(cells: &mut [u64; CELLS], i: usize)
+// A line's call, the number of its answer, and whether all that was answered is what it has.
+pub struct Line {
+    pub k: usize,
+    pub number: u32,
+    pub same: bool,
+}
+
+pub fn of(k: usize, number: u32, same: bool) -> Line {
+    Line {
+        k: k,
+        number: number,
+        same: same,
+    }
+}
+
+pub fn add(cells: &mut [u64; CELLS], l: Line) {
+    count(cells, LINES);
+    if l.k < kinds::UNKNOWN {
+        count(cells, cell(l.k, l.number));
+    }
+    if l.k < kinds::DUMP {
+        count(cells, cell(kinds::UNKNOWN, l.number));
+    }
+    if !l.same {
+        count(cells, DIFFERENT);
+    }
+}
+
+fn count(cells: &mut [u64; CELLS], i: usize)
     requires { ⌜ i < 548 ⌝ }
 {
     cells[i] = std::num::wrapping_add_u64(cells[i], 1);
@@ -24,15 +52,6 @@ fn cell(k: usize, number: u32) -> usize
         return 0;
     }
     k * 21 + (number % 21) as usize
-}
-
-pub fn answered(cells: &mut [u64; CELLS], k: usize, number: u32) {
-    if k < kinds::UNKNOWN {
-        count(cells, cell(k, number));
-    }
-    if k < kinds::DUMP {
-        count(cells, cell(kinds::UNKNOWN, number));
-    }
 }
 
 pub fn show(cells: &[u64; CELLS], names: &[u8]) {

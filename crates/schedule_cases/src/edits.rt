@@ -1,19 +1,18 @@
 // What a line does beside calls of the scheduler: the setup, what is lent, damage; and what it shows.
-use crate::bench;
-use crate::bench::Bench;
 use crate::line;
 use crate::state;
+use lent::Lent;
 use record::Record;
 use schedule::Setup;
 
 pub fn edit(
-    b: Bench,
+    b: Lent,
     k: usize,
     text: &[u8],
     store: &mut [u8],
     lens: &mut [u16],
     rows: &mut [u64],
-) -> Bench {
+) -> Lent {
     if k == line::SHOW {
         show(b, text, store, lens, rows);
         return b;
@@ -23,17 +22,17 @@ pub fn edit(
         return b;
     }
     if k == line::LENGTH {
-        set_length(text, lens);
+        lent::set_length(lens, line::index(text, 1), line::short(text, 2));
         return b;
     }
     if k == line::WORD {
-        set_word(text, rows);
+        lent::set_word(rows, line::index(text, 1), line::number(text, 2));
         return b;
     }
     given(b, k, text)
 }
 
-fn show(b: Bench, text: &[u8], store: &[u8], lens: &[u16], rows: &[u64]) {
+fn show(b: Lent, text: &[u8], store: &[u8], lens: &[u16], rows: &[u64]) {
     let k = line::which(text, 1, b"record store lengths rows");
     if k == 0 {
         state::record(b.rec);
@@ -50,31 +49,15 @@ fn show(b: Bench, text: &[u8], store: &[u8], lens: &[u16], rows: &[u64]) {
 }
 
 // A packet that the store's own deletion takes from under the schedule.
-fn vanish(b: Bench, text: &[u8], store: &mut [u8], lens: &mut [u16]) {
+fn vanish(b: Lent, text: &[u8], store: &mut [u8], lens: &mut [u16]) {
     let setup = b.setup;
-    let addr = line::number(text, 1);
-    store_public::delete(setup.store, store, lens, addr);
+    store_public::delete(setup.store, store, lens, line::number(text, 1));
 }
 
-fn set_length(text: &[u8], lens: &mut [u16]) {
-    let i = line::index(text, 1);
-    if i < lens.len() {
-        lens[i] = line::short(text, 2);
-    }
-}
-
-fn set_word(text: &[u8], rows: &mut [u64]) {
-    let i = line::index(text, 1);
-    if i < rows.len() {
-        rows[i] = line::number(text, 2);
-    }
-}
-
-fn given(b: Bench, k: usize, text: &[u8]) -> Bench {
-    let old = b.setup;
+fn given(b: Lent, k: usize, text: &[u8]) -> Lent {
     let rec = b.rec;
     if k == line::SETUP {
-        return Bench {
+        return Lent {
             setup: setup(text),
             rec: rec,
             room: b.room,
@@ -83,22 +66,32 @@ fn given(b: Bench, k: usize, text: &[u8]) -> Bench {
         };
     }
     if k == line::LEND {
-        return Bench {
-            setup: old,
-            rec: rec,
-            room: line::index(text, 1),
-            lens: line::index(text, 2),
-            rows: line::index(text, 3),
-        };
+        return lend(b.setup, b.rec, text);
     }
     if k == line::RECORD {
-        return bench::with_record(b, record(text));
+        return lent::with_record(b, record(text));
     }
     b
 }
 
+// How many bytes, lengths and words of rows.
+fn lend(setup: Setup, rec: Record, text: &[u8]) -> Lent {
+    Lent {
+        setup: setup,
+        rec: rec,
+        room: line::index(text, 1),
+        lens: line::index(text, 2),
+        rows: line::index(text, 3),
+    }
+}
+
+// Nothing is set up, and nothing lent.
+pub fn none() -> Lent {
+    lend(setup(b""), record(b""), b"")
+}
+
 // Subpools, size and slots of the first, size and slots of the second, entries, and whether it spills.
-pub fn setup(text: &[u8]) -> Setup {
+fn setup(text: &[u8]) -> Setup {
     let sizes = [line::short(text, 2), line::short(text, 4), 0, 0, 0, 0, 0, 0];
     let slots = [line::short(text, 3), line::short(text, 5), 0, 0, 0, 0, 0, 0];
     let s = layout::Setup {
@@ -114,7 +107,7 @@ pub fn setup(text: &[u8]) -> Setup {
 }
 
 // The count, the clock, the margin, and whether it is enabled.
-pub fn record(text: &[u8]) -> Record {
+fn record(text: &[u8]) -> Record {
     let clock = line::time(text, 2);
     let margin = line::margin(text, 4);
     Record {

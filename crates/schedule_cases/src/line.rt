@@ -2,6 +2,7 @@
 pub use text::line::bytes;
 pub use text::line::end;
 pub use text::line::index;
+pub use text::line::least;
 pub use text::line::margin;
 pub use text::line::next;
 pub use text::line::number;

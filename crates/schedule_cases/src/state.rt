@@ -1,18 +1,8 @@
-// What the scheduler is lent: compared with a copy, and written out.
+// What the scheduler is lent, written out; and what a call changed of it, found by comparison with copies: also of what was not lent.
+use lent::both;
+use lent::unless;
 use record::Record;
 use text::out;
-use text::same;
-
-pub fn same_record(a: Record, b: Record) -> bool {
-    let s = a.clock;
-    let t = b.clock;
-    let m = a.margin;
-    let n = b.margin;
-    let clocks = all(s.secs == t.secs, s.nanos == t.nanos);
-    let margins = all(m.secs == n.secs, m.nanos == n.nanos);
-    let others = all(a.count == b.count, a.enabled == b.enabled);
-    all(all(clocks, margins), others)
-}
 
 pub fn record(r: Record) {
     out::number(b" => count ", r.count as u64);
@@ -53,35 +43,15 @@ pub fn rows(part: &[u64]) {
     out::rows(part);
 }
 
-// What a call changed, found by comparison with copies: also of what was not lent.
-pub fn changes(
-    old: Record,
-    new: Record,
-    s: &[u8; 120],
-    store: &[u8; 120],
-    l: &[u16; 7],
-    lens: &[u16; 7],
-    r: &[u64; 20],
-    rows: &[u64; 20],
-) {
-    let a = same_record(old, new);
-    let b = same::bytes(s, store);
-    let c = same::shorts(l, lens);
-    let d = same::longs(r, rows);
+pub fn record_as(old: Record, new: Record) -> bool {
     out::say(b" ; changed:");
-    unless(b" record", a);
-    unless(b" store", b);
-    unless(b" lengths", c);
-    unless(b" rows", d);
-    unless(b" nothing", !all(all(a, b), all(c, d)));
+    unless(
+        b" record",
+        both(lent::same_but_count(old, new), old.count == new.count),
+    )
 }
 
-fn all(a: bool, b: bool) -> bool {
-    if a { b } else { false }
-}
-
-fn unless(name: &[u8], same: bool) {
-    if !same {
-        out::say(name);
-    }
+pub fn unchanged(rec: bool, tables: bool) {
+    unless(b" nothing", !both(rec, tables));
+    out::say(b"\n");
 }

@@ -8,18 +8,18 @@ use time::Margin;
 use time::UnixTime;
 
 // A refusal's number and name.
-fn name(no: usize) {
-    out::number(b"", no as u64);
+fn name(no: u64) {
+    out::number(b"", no);
     out::say(b" ");
     if no < 11 {
         word(
             b"- BadSetup BadBuffers StateDamaged BadTime WrongService WrongSubservice TcDataEmpty BadTimestamp TcUnreadable NestedScheduledTc",
-            no,
+            no as usize,
         );
     } else {
         word(
-            b"DataTooLarge StoreFull - ScheduleFull ReversedWindow InvalidSubpool InvalidPacketIdx DataDoesNotExist BufferTooSmall LogTooSmall",
-            no - 11,
+            b"DataTooLarge StoreFull ReleaseTimeInTimeMargin ScheduleFull ReversedWindow InvalidSubpool InvalidPacketIdx DataDoesNotExist BufferTooSmall LogTooSmall",
+            (no - 11) as usize,
         );
     }
 }
@@ -30,58 +30,58 @@ fn word(text: &[u8], k: usize) {
     out::say(&text[at..end]);
 }
 
-// The same and a value.
-fn valued(no: usize, n: u64) {
-    name(no);
+fn value(n: u64) {
     out::number(b" ", n);
 }
 
 fn late(clock: UnixTime, m: Margin, release: UnixTime) {
-    out::time(b"13 ReleaseTimeInTimeMargin clock ", clock);
+    out::time(b" clock ", clock);
     out::margin(b" margin ", m);
     out::time(b" release ", release);
 }
 
-fn id_error(e: StoreIdError) {
+fn id_value(e: StoreIdError) {
     match e {
-        StoreIdError::InvalidSubpool(k) => valued(16, k as u64),
-        StoreIdError::InvalidPacketIdx(i) => valued(17, i as u64),
+        StoreIdError::InvalidSubpool(k) => value(k as u64),
+        StoreIdError::InvalidPacketIdx(i) => value(i as u64),
     }
 }
 
-pub fn of_store(e: StoreRefusal) {
+fn store_values(e: StoreRefusal) {
     match e {
-        StoreRefusal::BadSetup => name(1),
-        StoreRefusal::BadBuffers => name(2),
-        StoreRefusal::StateDamaged => name(3),
-        StoreRefusal::DataTooLarge(n) => valued(11, n as u64),
-        StoreRefusal::StoreFull(k) => valued(12, k as u64),
-        StoreRefusal::InvalidStoreId(b) => id_error(b),
-        StoreRefusal::DataDoesNotExist(a) => valued(18, a),
+        StoreRefusal::DataTooLarge(n) => value(n as u64),
+        StoreRefusal::StoreFull(k) => value(k as u64),
+        StoreRefusal::InvalidStoreId(b) => id_value(b),
+        StoreRefusal::DataDoesNotExist(a) => value(a),
         StoreRefusal::BufferTooSmall { found, expected } => {
-            valued(19, found as u64);
-            out::number(b" ", expected as u64);
+            value(found as u64);
+            value(expected as u64);
         }
+        _ => {}
     }
 }
 
-pub fn of_schedule(e: ScheduleRefusal) {
+fn schedule_values(e: ScheduleRefusal) {
     match e {
-        ScheduleRefusal::Store(s) => of_store(s),
-        ScheduleRefusal::BadTime => name(4),
-        ScheduleRefusal::WrongService(n) => valued(5, n as u64),
-        ScheduleRefusal::WrongSubservice(n) => valued(6, n as u64),
-        ScheduleRefusal::TcDataEmpty => name(7),
-        ScheduleRefusal::BadTimestamp => name(8),
-        ScheduleRefusal::TcUnreadable => name(9),
-        ScheduleRefusal::NestedScheduledTc => name(10),
+        ScheduleRefusal::Store(s) => store_values(s),
+        ScheduleRefusal::WrongService(n) => value(n as u64),
+        ScheduleRefusal::WrongSubservice(n) => value(n as u64),
         ScheduleRefusal::ReleaseTimeInTimeMargin {
             clock,
             margin: m,
             release,
         } => late(clock, m, release),
-        ScheduleRefusal::ScheduleFull => name(14),
-        ScheduleRefusal::ReversedWindow => name(15),
-        ScheduleRefusal::LogTooSmall(n) => valued(20, n as u64),
+        ScheduleRefusal::LogTooSmall(n) => value(n as u64),
+        _ => {}
     }
+}
+
+pub fn of_store(e: StoreRefusal) {
+    name(refusal_numbers::of_store(e));
+    store_values(e);
+}
+
+pub fn of_schedule(e: ScheduleRefusal) {
+    name(refusal_numbers::of_schedule(e));
+    schedule_values(e);
 }

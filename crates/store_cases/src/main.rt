@@ -1,11 +1,11 @@
 // The worked cases of the static store, through its public calls: each line of the input is done, and written out with what came back.
-mod bench;
 mod calls;
 mod command;
 mod damage;
+mod given;
 mod shows;
 
-use bench::Bench;
+use given::Given;
 use text::line;
 use text::out;
 
@@ -17,10 +17,10 @@ fn main() {
 
 // Room for the largest store and the largest table.
 fn all(text: &[u8]) {
-    let mut store = bench::room();
+    let mut store = given::room();
     let mut lens = [65535u16; 2048];
     let mut buf = [0u8; 64];
-    let mut b = bench::none();
+    let mut b = given::none();
     let mut at: usize = 0;
     while at < text.len() {
         let end = line::end(text, at, b'\n');
@@ -30,9 +30,9 @@ fn all(text: &[u8]) {
     }
 }
 
-fn one(b: Bench, text: &[u8], store: &mut [u8], lens: &mut [u16], buf: &mut [u8]) -> Bench {
+fn one(b: Given, text: &[u8], store: &mut [u8], lens: &mut [u16], buf: &mut [u8]) -> Given {
     let k = command::of(text);
-    let next = bench::given(b, k, text);
+    let next = given::by(b, k, text);
     out::say(text);
     done(next, k, text, store, lens, buf);
     out::say(b"\n");
@@ -40,7 +40,7 @@ fn one(b: Bench, text: &[u8], store: &mut [u8], lens: &mut [u16], buf: &mut [u8]
 }
 
 // On as much of the store and the lengths as is lent.
-fn done(b: Bench, k: usize, text: &[u8], store: &mut [u8], lens: &mut [u16], buf: &mut [u8]) {
+fn done(b: Given, k: usize, text: &[u8], store: &mut [u8], lens: &mut [u16], buf: &mut [u8]) {
     let s = line::least(b.room, store.len());
     let l = line::least(b.lens, lens.len());
     let setup = b.setup;

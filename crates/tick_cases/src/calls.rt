@@ -1,14 +1,16 @@
 // What a line does, by its first letter: small letters call the scheduler and the store, capitals set and show what they are lent.
-use crate::bench;
-use crate::bench::Bench;
+use crate::given;
 use crate::state;
+use crate::ticked;
+use lent::Lent;
 use record::Record;
 use schedule::Setup;
 use text::line;
 use text::out;
+use time::UnixTime;
 ghost use Prim.Native.Nat.{_≤_};
 
-pub fn first(text: &[u8]) -> u8 {
+fn first(text: &[u8]) -> u8 {
     if 0 < text.len() {
         return text[0];
     }
@@ -16,73 +18,50 @@ pub fn first(text: &[u8]) -> u8 {
 }
 
 pub fn one(
-    b: Bench,
+    b: Lent,
+    text: &[u8],
+    store: &mut [u8; 1048576],
+    lens: &mut [u16; 258],
+    rows: &mut [u64; 16388],
+) -> Lent {
+    let k = first(text);
+    out::say(text);
+    let next = done(b, k, text, store, lens, rows);
+    out::say(b"\n");
+    next
+}
+
+fn done(
+    b: Lent,
     k: u8,
     text: &[u8],
-    store: &mut [u8],
-    lens: &mut [u16],
-    rows: &mut [u64],
-    log: &mut [u8],
-) -> Bench {
-    let setup = b.setup;
-    let rec = b.rec;
-    out::say(text);
+    store: &mut [u8; 1048576],
+    lens: &mut [u16; 258],
+    rows: &mut [u64; 16388],
+) -> Lent {
     if k == b't' {
-        return bench::with_record(b, tick(b, text, store, lens, rows, log));
+        return ticked::run(b, text, store, lens, rows);
     }
-    if k == b'S' {
-        return bench::set_up(rec, text);
+    if k > b'Z' {
+        return lent::with_record(b, change(b.setup, b.rec, k, text, store, lens, rows));
     }
-    if k == b'L' {
-        return bench::lend(setup, rec, text);
-    }
-    if k == b'K' {
-        return bench::with_record(b, bench::record(text));
-    }
+    table(k, text, store, lens, rows);
+    given::by(b, k, text)
+}
+
+// A length, a word of a row; and a view of all.
+fn table(k: u8, text: &[u8], store: &[u8], lens: &mut [u16], rows: &mut [u64]) {
     if k == b'N' {
-        state::set_length(text, lens);
-        return b;
+        lent::set_length(lens, line::index(text, 1), line::short(text, 3));
+        return;
     }
     if k == b'W' {
-        state::set_word(text, rows);
-        return b;
+        lent::set_word(rows, line::index(text, 1), line::number(text, 3));
+        return;
     }
     if k == b'V' {
         state::view(text, store, lens, rows);
-        return b;
     }
-    bench::with_record(b, change(setup, rec, k, text, store, lens, rows))
-}
-
-// The tick on what is lent: keep or delete, the log's length, the limit.
-fn tick(
-    b: Bench,
-    text: &[u8],
-    store: &mut [u8],
-    lens: &mut [u16],
-    rows: &mut [u64],
-    log: &mut [u8],
-) -> Record {
-    let s = line::least(b.room, store.len());
-    let l = line::least(b.lens, lens.len());
-    let r = line::least(b.rows, rows.len());
-    let n = line::part(text, 3, log.len());
-    let setup = b.setup;
-    let rec = b.rec;
-    let t = tick::tick(
-        setup,
-        rec,
-        &mut store[0..s],
-        &mut lens[0..l],
-        &mut rows[0..r],
-        &mut log[0..n],
-        line::index(text, 5),
-        line::which(text, 1, b"delete,") == 0,
-    );
-    let a = t.answer;
-    out::say(b" => ");
-    shown::ticked(a);
-    t.next
 }
 
 // The other calls. They are given whole tables, and are not written out: what they do is seen at the next tick.
@@ -107,30 +86,46 @@ fn change(
         );
         return c.next;
     }
-    if k == b'a' {
-        add(setup.store, text, store, lens);
-        return rec;
-    }
-    if k == b'v' {
-        store_public::delete(setup.store, store, lens, line::number(text, 1));
-        return rec;
-    }
     if k == b'i' {
         return insert(setup, rec, text, store, lens, rows);
     }
     if k == b'p' {
-        let p = schedule_public::insert_unwrapped_tc(
-            setup,
-            rec,
-            store,
-            lens,
-            rows,
-            line::time_of(text, 3, 5),
-            b"\x18\x02\xC0\x11\x00\x06\x2F\x11\x01\x00\x00\xDD\xB5",
-        );
-        return p.next;
+        return packet(setup, rec, line::time_of(text, 3, 5), store, lens, rows);
     }
+    kept(k, setup.store, text, store, lens);
     mark(rec, k, text)
+}
+
+// Document 01's packet P.
+fn packet(
+    setup: Setup,
+    rec: Record,
+    t: UnixTime,
+    store: &mut [u8],
+    lens: &mut [u16],
+    rows: &mut [u64],
+) -> Record {
+    let p = schedule_public::insert_unwrapped_tc(
+        setup,
+        rec,
+        store,
+        lens,
+        rows,
+        t,
+        b"\x18\x02\xC0\x11\x00\x06\x2F\x11\x01\x00\x00\xDD\xB5",
+    );
+    p.next
+}
+
+// The store's own calls.
+fn kept(k: u8, setup: layout::Setup, text: &[u8], store: &mut [u8], lens: &mut [u16]) {
+    if k == b'a' {
+        add(setup, text, store, lens);
+        return;
+    }
+    if k == b'v' {
+        store_public::delete(setup, store, lens, line::number(text, 1));
+    }
 }
 
 fn mark(rec: Record, k: u8, text: &[u8]) -> Record {

@@ -1,8 +1,6 @@
-// What the scheduler is lent: damaged, compared with a copy, and written out.
-use record::Record;
+// What the scheduler is lent: filled, and written out.
 use text::line;
 use text::out;
-use text::same;
 
 // Room for the largest store.
 pub fn room() -> [u8; 1048576] {
@@ -23,20 +21,6 @@ pub fn count_up(part: &mut [u8], v: u64) {
         part[i] = (b % 199) as u8;
         b = (b + 1) % 199;
         i += 1;
-    }
-}
-
-pub fn set_length(text: &[u8], lens: &mut [u16]) {
-    let i = line::index(text, 1);
-    if i < lens.len() {
-        lens[i] = line::short(text, 3);
-    }
-}
-
-pub fn set_word(text: &[u8], rows: &mut [u64]) {
-    let i = line::index(text, 1);
-    if i < rows.len() {
-        rows[i] = line::number(text, 3);
     }
 }
 
@@ -70,7 +54,7 @@ fn written(part: &[u8]) -> usize {
 }
 
 // How many bytes were written, and which; of more than 160 the first eight, and the check code of all.
-fn show_log(part: &[u8]) {
+pub fn show_log(part: &[u8]) {
     let n = line::least(written(part), part.len());
     out::number(b" ; log: ", n as u64);
     out::say(b" bytes ");
@@ -80,58 +64,4 @@ fn show_log(part: &[u8]) {
     }
     out::hex(&part[0..8]);
     out::number(b" .. check code ", wide16(check_code::of(&part[0..n])));
-}
-
-fn same_record(a: Record, b: Record) -> bool {
-    let s = a.clock;
-    let t = b.clock;
-    let m = a.margin;
-    let n = b.margin;
-    if s.secs != t.secs {
-        return false;
-    }
-    if s.nanos != t.nanos {
-        return false;
-    }
-    if m.secs != n.secs {
-        return false;
-    }
-    if m.nanos != n.nanos {
-        return false;
-    }
-    if a.enabled { b.enabled } else { !b.enabled }
-}
-
-// After a tick: its log, and what it changed, found by comparison with copies: also of what was not lent. The record's count is written out.
-pub fn changes(
-    k: u8,
-    log: &[u8],
-    old: Record,
-    new: Record,
-    s: &[u8; 1048576],
-    store: &[u8; 1048576],
-    l: &[u16; 258],
-    lens: &[u16; 258],
-    r: &[u64; 16388],
-    rows: &[u64; 16388],
-) {
-    if k != b't' {
-        out::say(b"\n");
-        return;
-    }
-    show_log(log);
-    out::number(b" ; count ", old.count as u64);
-    out::number(b" to ", new.count as u64);
-    out::say(b" ; changed:");
-    unless(b" clock, margin or mark", same_record(old, new));
-    unless(b" store", same::bytes(s, store));
-    unless(b" lengths", same::shorts(l, lens));
-    unless(b" rows", same::longs(r, rows));
-    out::say(b"\n");
-}
-
-fn unless(name: &[u8], same: bool) {
-    if !same {
-        out::say(name);
-    }
 }

@@ -1,17 +1,15 @@
 -- `schedule_cases::all` meets its contract.
-use mathlib.Core.Path.{_≡_}
-use lib.ListN.{length}
 use Prim.Native.Nat.{_-_, _≤_}
+use lib.ListN.{length}
 use borrow.Author.Needs.{needs}
-use native.Mathlib.Omega.{arith}
 use Rattle.schedule_cases.proofs.all.Statement.{statement}
 use Rattle.schedule_cases.proofs.all.Tie as tie
 
 abbrev Inv-loop : tie.InvT-loop
-Inv-loop text store₀ lens₀ rows₀ b₀ at₀ t15 store lens rows b at = (at ≤ length text) × (length store ≡ 120) × (length lens ≡ 7) × (length rows ≡ 20)
+Inv-loop text store₀ lens₀ rows₀ b₀ at₀ store lens rows b at = at ≤ length text
 
 abbrev μ-loop : tie.MeasureT-loop
-μ-loop text store₀ lens₀ rows₀ b₀ at₀ t15 store lens rows b at = length text - at
+μ-loop text store₀ lens₀ rows₀ b₀ at₀ store lens rows b at = length text - at
 
 pub all-spec : {M : Type 1} → statement M
 all-spec =
@@ -25,16 +23,6 @@ all-spec =
     (λ c κs. search needs)
     (λ c. search needs)
     (λ c. search needs)
-    (λ c. search needs)
-    (λ c κs. search needs)
-    (λ c. search needs)
-    (λ c. search needs)
-    (λ c. search needs)
-    (λ c. search needs)
-    (λ c. search needs)
-    (λ c. search needs)
-    (λ c κs. search needs)
-    (λ c κs. search needs)
     (λ c. search needs)
     (λ c κs. search needs)
     (λ c. search needs)

@@ -1,0 +1,67 @@
+// A tick: its answer, its log, and what it changed, found by comparison with copies: also of what was not lent.
+use crate::state;
+use lent::Lent;
+use record::Record;
+use text::line;
+use text::out;
+
+pub fn run(
+    b: Lent,
+    text: &[u8],
+    store: &mut [u8; 1048576],
+    lens: &mut [u16; 258],
+    rows: &mut [u64; 16388],
+) -> Lent {
+    let s = *store;
+    let l = *lens;
+    let r = *rows;
+    let rec = logged(b, text, store, lens, rows);
+    changes(b.rec, rec);
+    lent::same_tables(&s, store, &l, lens, &r, rows);
+    lent::with_record(b, rec)
+}
+
+// The log is longer than the part that a tick uses.
+fn logged(b: Lent, text: &[u8], store: &mut [u8], lens: &mut [u16], rows: &mut [u64]) -> Record {
+    let mut log = state::blank();
+    let rec = tick(b, text, store, lens, rows, &mut log);
+    state::show_log(&log);
+    rec
+}
+
+// The tick on what is lent: keep or delete, the log's length, the limit.
+fn tick(
+    b: Lent,
+    text: &[u8],
+    store: &mut [u8],
+    lens: &mut [u16],
+    rows: &mut [u64],
+    log: &mut [u8],
+) -> Record {
+    let s = line::least(b.room, store.len());
+    let l = line::least(b.lens, lens.len());
+    let r = line::least(b.rows, rows.len());
+    let n = line::part(text, 3, log.len());
+    let t = tick::tick(
+        b.setup,
+        b.rec,
+        &mut store[0..s],
+        &mut lens[0..l],
+        &mut rows[0..r],
+        &mut log[0..n],
+        line::index(text, 5),
+        line::which(text, 1, b"delete,") == 0,
+    );
+    out::say(b" => ");
+    let a = t.answer;
+    shown::ticked(a);
+    t.next
+}
+
+// The record's count is written out.
+fn changes(old: Record, new: Record) {
+    out::number(b" ; count ", old.count as u64);
+    out::number(b" to ", new.count as u64);
+    out::say(b" ; changed:");
+    lent::unless(b" clock, margin or mark", lent::same_but_count(old, new));
+}
