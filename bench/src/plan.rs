@@ -34,7 +34,7 @@ pub const CALLS: [(Call, &str); 7] = [
     (Call::TickMany, "tick, 64 due (at 16 entries: 16)"),
     (Call::DeleteWindow, "window deletion, 16 covered"),
     (Call::DeleteAll, "window deletion, all covered"),
-    (Call::DeleteById, "request-ID deletion"),
+    (Call::DeleteById, "deletion by request ID"),
 ];
 
 #[derive(Clone, Copy, Debug, PartialEq, Eq)]
