@@ -98,7 +98,7 @@ static size_t offset(size_t k, size_t n)
 }
 
 /* A record's flag, and the packet that it must carry. */
-enum { DISABLED = 0, RELEASED = 1, MISSING = 2, HEAD = 1 + 8 + 8 };
+enum { DISCARDED = 0, RELEASED = 1, MISSING = 2, HEAD = 1 + 8 + 8 };
 struct expected {
     uint8_t flag;
     const uint8_t *packet;
@@ -114,7 +114,7 @@ static void dispatch(const uint8_t *entry, size_t entry_n, struct expected expec
     expect("flag", entry[0], expected.flag);
     for (size_t i = 0; i < expected.packet_n; i++)
         expect("byte", entry[HEAD + i], expected.packet[i]);
-    printf("%s ", entry[0] == RELEASED ? "released" : entry[0] == MISSING ? "missing " : "disabled");
+    printf("%s ", entry[0] == RELEASED ? "released" : entry[0] == MISSING ? "missing " : "discarded");
     print_id(number_at(entry + 1, 8));
     for (size_t i = HEAD; i < entry_n; i++)
         printf("%s%02X", i == HEAD ? ": " : " ", (unsigned)entry[i]);

@@ -72,7 +72,7 @@ fn main() -> Result<(), Refusal> {
         let id = name(record.request_id);
         match record.flag {
             Flag::Released => println!("released {id}: {}", hex(record.packet)),
-            Flag::Disabled => println!("disabled {id}: {}", hex(record.packet)),
+            Flag::Discarded => println!("discarded {id}: {}", hex(record.packet)),
             Flag::Missing => println!("missing  {id}"),
         }
     }

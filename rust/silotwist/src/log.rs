@@ -10,7 +10,7 @@ pub enum Flag {
     /// 1: released.
     Released,
     /// 0: due while the schedule was disabled.
-    Disabled,
+    Discarded,
     /// 2: its packet is missing; the record has no bytes.
     Missing,
 }
@@ -34,7 +34,7 @@ impl<'l> LogRecord<'l> {
         let (id, rest) = rest.split_first_chunk()?;
         let (addr, packet) = rest.split_first_chunk()?;
         let flag = match flag {
-            0 => Flag::Disabled,
+            0 => Flag::Discarded,
             1 => Flag::Released,
             2 if packet.is_empty() => Flag::Missing,
             _ => return None,

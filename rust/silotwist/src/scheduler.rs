@@ -68,7 +68,7 @@ impl<'a> Scheduler<'a> {
         Ok(())
     }
 
-    /// Disables the release: what is due is handed out as [`Flag::Disabled`](crate::Flag::Disabled).
+    /// Disables the release: what is due is handed out as [`Flag::Discarded`](crate::Flag::Discarded).
     ///
     /// Refuses [`Refusal::StateDamaged`] for the record's own clock and margin.
     #[doc(alias = "silotwist_disable")]

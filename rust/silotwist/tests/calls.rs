@@ -162,7 +162,7 @@ fn ticks() {
 
     assert_eq!(scheduler.disable(), Ok(()));
     let ticked = scheduler.tick(&mut log, 2, Packets::Keep).expect("the third");
-    assert!(ticked.log.records().eq([record(Flag::Disabled, 2, &packets[2])]));
+    assert!(ticked.log.records().eq([record(Flag::Discarded, 2, &packets[2])]));
     assert_eq!(ticked.still_due, 0);
     assert_eq!(scheduler.store().has_element_at(StoreAddr(2)), Ok(true));
     assert_eq!(scheduler.count(), Ok(0));
