@@ -19,6 +19,11 @@ pub unwritten : (n : ℕ) (new old : List ℕ) → (n ≡ 0 → ⊥) → old ≡
 unfolding writtenIf
 unwritten n new old e = rw (ne-eqb n 0 e)
 
+-- the mark over the count, as a reset writes them
+pub reset-written : (n k : ℕ) (ws ws₁ ws₂ : List ℕ) → ws₁ ≡ set ws 0 k → ws₂ ≡ writtenIf n (set ws₁ 5 (bit false)) ws₁
+    → ws₂ ≡ writtenIf n (set (set ws 0 k) 5 (bit false)) (set ws 0 k)
+reset-written n k ws ws₁ ws₂ e f = f ∙ ap (λ x. writtenIf n (set x 5 (bit false)) x) e
+
 pub bit-is : (b : Bool) → boolByte b ≡ bit b
 bit-is true = refl
 bit-is false = refl

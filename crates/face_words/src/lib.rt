@@ -6,7 +6,7 @@ ghost use Rattle.rules.specs.Papers.{no};
 ghost use Rattle.face_words.specs.Inside.{wordsOf};
 
 pub mod telling;
-pub mod writing;
+mod writing;
 
 // An answer: the number to return, and the answer's first words.
 pub struct Words {

@@ -5,12 +5,10 @@ use crate::word_of;
 use record::Record;
 use time::UnixTime;
 ghost use mathlib.Core.Path.{_≡_};
-ghost use mathlib.Core.List.{_∷_};
 ghost use Prim.Native.Nat.{_≤_};
-ghost use lib.ListN.{drop, length, set};
-ghost use Rattle.record.specs.Refusals.{marginWords, timeWords, wordOf};
+ghost use lib.ListN.{length, set};
 ghost use Rattle.lookup.specs.Refusals.{bit};
-ghost use Rattle.face_words.specs.Inside.{writtenIf};
+ghost use Rattle.face_words.specs.Inside.{clockSet, recordSet, writtenIf};
 
 // The count.
 pub fn count(record: &mut [u64], n: usize)
@@ -24,7 +22,7 @@ pub fn count(record: &mut [u64], n: usize)
 pub fn clock(record: &mut [u64], number: u32, t: UnixTime)
     requires { ⌜ 6 ≤ length (now «record») ⌝ }
     ensures { λ r. ⌜ now («record» .exit)
-        ≡ writtenIf number (set (set (now («record» .entry)) 1 (wordOf (t .secs))) 2 (t .nanos)) (now («record» .entry)) ⌝ }
+        ≡ writtenIf number (clockSet (now («record» .entry)) t) (now («record» .entry)) ⌝ }
 {
     if number == 0 {
         record[1] = word_of(t.secs);
@@ -45,10 +43,7 @@ pub fn mark(record: &mut [u64], number: u32, on: bool)
 // All six words, where the call was carried out.
 pub fn all(record: &mut [u64], number: u32, r: Record)
     requires { ⌜ 6 ≤ length (now «record») ⌝ }
-    ensures { λ x. ⌜ now («record» .exit)
-        ≡ writtenIf number
-        (r .count ∷ timeWords (r .clock) (marginWords (r .margin) (bit (r .enabled) ∷ drop 6 (now («record» .entry)))))
-        (now («record» .entry)) ⌝ }
+    ensures { λ x. ⌜ now («record» .exit) ≡ writtenIf number (recordSet (now («record» .entry)) r) (now («record» .entry)) ⌝ }
 {
     if number == 0 {
         let c = r.clock;

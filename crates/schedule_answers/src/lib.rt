@@ -2,6 +2,7 @@
 use face_words::Words;
 use face_words::none;
 use face_words::one;
+use face_words::telling;
 use face_words::two;
 use face_words::wide;
 use face_words::wide8;
@@ -14,11 +15,13 @@ use store_answers::store_refusal;
 use time::Margin;
 use time::UnixTime;
 ghost use mathlib.Core.Path.{_≡_};
-ghost use mathlib.Core.List.{[]};
+ghost use mathlib.Core.List.{[], _++_};
+ghost use Prim.Native.Nat.{_≤_};
+ghost use lib.ListN.{drop, length};
 ghost use Rattle.deletions.specs.Answers.{clearedPaper, lastPaper};
 ghost use Rattle.by_id.specs.Answers.{freedPaper, takenPaper};
 ghost use Rattle.windows.specs.Answers.{retrievedPaper};
-ghost use Rattle.face_words.specs.Inside.{wordsOf};
+ghost use Rattle.face_words.specs.Inside.{eight, wordsOf};
 ghost use Rattle.insertions.specs.Answers.{insertedPaper};
 ghost use Rattle.record.specs.Refusals.{donePaper, marginWords, paper, timeWords};
 ghost use Rattle.rules.specs.Papers.{no};
@@ -26,8 +29,8 @@ ghost use Rattle.schedule.specs.Answers.{countedPaper};
 ghost use Rattle.schedule_answers.specs.Inside.{carrying, shortPaper};
 ghost use Rattle.tick.specs.Promise.{tickPaper};
 
-// The refusal of a record with too few words: 1 where the setup is bad, and else 2.
-pub fn short_record(setup: Setup) -> Words
+// A record with too few words: 1 where the setup is bad, and else 2.
+fn short_record(setup: Setup) -> Words
     ensures { λ r. ⌜ r ≡ wordsOf (shortPaper setup) ⌝ }
 {
     let ok = schedule::setup_ok(setup);
@@ -35,6 +38,15 @@ pub fn short_record(setup: Setup) -> Words
         return none(2);
     }
     none(1)
+}
+
+// The same, told.
+pub fn short(answer: &mut [u64], setup: Setup) -> u32
+    requires { ⌜ 8 ≤ length (now answer) ⌝ }
+    ensures { λ r. ⌜ (r ≡ wordsOf (shortPaper setup) .number)
+        × (now (answer .exit) ≡ eight (wordsOf (shortPaper setup) .values) ++ drop 8 (now (answer .entry))) ⌝ }
+{
+    telling::put(answer, short_record(setup))
 }
 
 // Refusal 13: clock, margin, release.

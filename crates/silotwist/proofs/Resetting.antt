@@ -60,14 +60,14 @@ module _ (an sw rw₀ st le ro : List ℕ) where
       → ScheduleFaces sw (word rw₀ 0) (judgedCall an sw rw₀ st le ro (λ su. resetIn)) (resetWritten rw₀) rw₀ st le ro an n rw₀ st le ro an′
   resets-short = changes-short an sw rw₀ st le ro (λ su. resetIn) (resetWritten rw₀)
 
-  pub resets : (su : Setup) (r r′ : Record) (p : Paper) (w : Words) (n : ℕ) (rw₁ rw′ st′ le′ ro′ an′ : List ℕ) → 8 ≤ length an
+  pub resets : (su : Setup) (r r′ : Record) (p : Paper) (w : Words) (n : ℕ) (rw′ st′ le′ ro′ an′ : List ℕ) → 8 ≤ length an
       → ReadsSetup sw su → 6 ≤ length rw₀ → Stands (recordFrom rw₀) r → Writes su r st le ro (judging su r st le ro resetIn) p r′ st′ le′ ro′
-      → w ≡ wordsOf p → n ≡ w .number → an′ ≡ eight (w .values) ++ drop 8 an → rw₁ ≡ set rw₀ 0 (r′ .count)
-      → rw′ ≡ writtenIf (w .number) (set rw₁ 5 (bit false)) rw₁
+      → w ≡ wordsOf p → n ≡ w .number → an′ ≡ eight (w .values) ++ drop 8 an
+      → rw′ ≡ writtenIf (w .number) (set (set rw₀ 0 (r′ .count)) 5 (bit false)) (set rw₀ 0 (r′ .count))
       → ScheduleFaces sw (word rw₀ 0) (judgedCall an sw rw₀ st le ro (λ su. resetIn)) (resetWritten rw₀) rw₀ st le ro an n rw′ st′ le′ ro′ an′
-  resets su r r′ p w n rw₁ rw′ st′ le′ ro′ an′ h s l t x e i j k m =
+  resets su r r′ p w n rw′ st′ le′ ro′ an′ h s l t x e i j m =
       carries an sw rw₀ st le ro (λ v. resetIn) (resetWritten rw₀) su r r′ p w n rw′ st′ le′ ro′ an′ h s l t x e i j
-      (m ∙ ap (λ ws. writtenIf (w .number) (set ws 5 0) ws) (k ∙ ap (λ (y : Record). set rw₀ 0 (y .count)) (x .next))
+      (m ∙ ap (λ ws. writtenIf (w .number) (set ws 5 0) ws) (ap (λ (y : Record). set rw₀ 0 (y .count)) (x .next))
       ∙ ap (λ q. writtenIf q (set (set rw₀ 0 (after (judging su r st le ro resetIn) r recordOf .count)) 5 0) (set rw₀ 0 (after
       (judging su r st le ro resetIn) r recordOf .count)))
       (ap (λ (y : Words). y .number) e ∙ ap (λ (q : Paper). q .number) (x .answer))

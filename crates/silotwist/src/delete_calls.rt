@@ -1,6 +1,5 @@
 // The deletions by window and by request ID.
 use face_words::telling;
-use face_words::writing;
 ghost use Rattle.deletions.specs.Deleting.{deleteWindowIn};
 ghost use Rattle.by_id.specs.ById.{deleteByIdIn, deleteKeepingIn};
 ghost use Rattle.face_reading.specs.Reading.{windowFrom, word};
@@ -34,18 +33,16 @@ pub extern "C" fn silotwist_delete_window(
     }
     let su = face_reading::setup(setup);
     if record.len() < 6 {
-        return telling::put(answer, schedule_answers::short_record(su));
+        return schedule_answers::short(answer, su);
     }
     let r = face_reading::record(record);
     let from = face_reading::time(from_secs, from_nanos);
     let to = face_reading::time(to_secs, to_nanos);
     let v = face_reading::window(has_from, from, has_to, to);
     let c = schedule_public::delete_by_time_filter(su, r, store, lens, rows, v);
-    let next = c.next;
     let a = c.answer;
     let w = schedule_answers::cleared(a);
-    writing::count(record, next.count);
-    telling::put(answer, w)
+    telling::with_count(record, c.next.count, answer, w)
 }
 
 #[no_mangle]
@@ -70,15 +67,13 @@ pub extern "C" fn silotwist_delete_by_id_keep(
     }
     let su = face_reading::setup(setup);
     if record.len() < 6 {
-        return telling::put(answer, schedule_answers::short_record(su));
+        return schedule_answers::short(answer, su);
     }
     let r = face_reading::record(record);
     let c = schedule_public::delete_by_request_id(su, r, store, lens, rows, request_id);
-    let next = c.next;
     let a = c.answer;
     let w = schedule_answers::taken(a);
-    writing::count(record, next.count);
-    telling::put(answer, w)
+    telling::with_count(record, c.next.count, answer, w)
 }
 
 #[no_mangle]
@@ -103,7 +98,7 @@ pub extern "C" fn silotwist_delete_by_id(
     }
     let su = face_reading::setup(setup);
     if record.len() < 6 {
-        return telling::put(answer, schedule_answers::short_record(su));
+        return schedule_answers::short(answer, su);
     }
     let r = face_reading::record(record);
     let c = schedule_public::delete_by_request_id_and_from_pool(
@@ -114,9 +109,7 @@ pub extern "C" fn silotwist_delete_by_id(
         rows,
         request_id,
     );
-    let next = c.next;
     let a = c.answer;
     let w = schedule_answers::freed(a);
-    writing::count(record, next.count);
-    telling::put(answer, w)
+    telling::with_count(record, c.next.count, answer, w)
 }

@@ -1,6 +1,5 @@
 // The insertions.
 use face_words::telling;
-use face_words::writing;
 ghost use Rattle.face_reading.specs.Reading.{word};
 ghost use Rattle.insertions.specs.Inserting.{insertUnwrappedIn};
 ghost use Rattle.gate.specs.Entering.{insertStoredIn};
@@ -29,15 +28,13 @@ pub extern "C" fn silotwist_insert_wrapped(
     }
     let su = face_reading::setup(setup);
     if record.len() < 6 {
-        return telling::put(answer, schedule_answers::short_record(su));
+        return schedule_answers::short(answer, su);
     }
     let r = face_reading::record(record);
     let c = schedule_public::insert_wrapped_tc(su, r, store, lens, rows, packet);
-    let next = c.next;
     let a = c.answer;
     let w = schedule_answers::inserted(a);
-    writing::count(record, next.count);
-    telling::put(answer, w)
+    telling::with_count(record, c.next.count, answer, w)
 }
 
 #[no_mangle]
@@ -64,16 +61,14 @@ pub extern "C" fn silotwist_insert_unwrapped(
     }
     let su = face_reading::setup(setup);
     if record.len() < 6 {
-        return telling::put(answer, schedule_answers::short_record(su));
+        return schedule_answers::short(answer, su);
     }
     let r = face_reading::record(record);
     let t = face_reading::time(secs, nanos);
     let c = schedule_public::insert_unwrapped_tc(su, r, store, lens, rows, t, packet);
-    let next = c.next;
     let a = c.answer;
     let w = schedule_answers::inserted(a);
-    writing::count(record, next.count);
-    telling::put(answer, w)
+    telling::with_count(record, c.next.count, answer, w)
 }
 
 #[no_mangle]
@@ -101,7 +96,7 @@ pub extern "C" fn silotwist_insert_stored(
     }
     let su = face_reading::setup(setup);
     if record.len() < 6 {
-        return telling::put(answer, schedule_answers::short_record(su));
+        return schedule_answers::short(answer, su);
     }
     let r = face_reading::record(record);
     let t = face_reading::time(secs, nanos);
@@ -115,9 +110,7 @@ pub extern "C" fn silotwist_insert_stored(
         request_id,
         address,
     );
-    let next = c.next;
     let a = c.answer;
     let w = schedule_answers::done(a);
-    writing::count(record, next.count);
-    telling::put(answer, w)
+    telling::with_count(record, c.next.count, answer, w)
 }

@@ -1,6 +1,5 @@
 // The calls that see the record alone.
 use face_words::telling;
-use face_words::writing;
 use time::UnixTime;
 ghost use mathlib.Core.Path.{_≡_};
 ghost use mathlib.Core.Bool.{false, true};
@@ -33,8 +32,7 @@ pub extern "C" fn silotwist_set_clock(
     let c = r.clocked(t);
     let a = c.answer;
     let w = schedule_answers::done(a);
-    writing::clock(record, w.number, t);
-    telling::put(answer, w)
+    telling::with_clock(record, t, answer, w)
 }
 
 fn mark(record: &mut [u64], on: bool, answer: &mut [u64]) -> u32
@@ -53,8 +51,7 @@ fn mark(record: &mut [u64], on: bool, answer: &mut [u64]) -> u32
     let c = r.marked(on);
     let a = c.answer;
     let w = schedule_answers::done(a);
-    writing::mark(record, w.number, on);
-    telling::put(answer, w)
+    telling::with_mark(record, on, answer, w)
 }
 
 #[no_mangle]

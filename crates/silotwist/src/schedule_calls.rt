@@ -1,6 +1,5 @@
 // Fresh start, count, window and reset.
 use face_words::telling;
-use face_words::writing;
 use time::Margin;
 ghost use lib.ListN.{length};
 ghost use Rattle.deletions.specs.Deleting.{resetIn};
@@ -30,7 +29,7 @@ pub extern "C" fn silotwist_count(
     }
     let su = face_reading::setup(setup);
     if record.len() < 6 {
-        return telling::put(answer, schedule_answers::short_record(su));
+        return schedule_answers::short(answer, su);
     }
     let r = face_reading::record(record);
     let a = schedule::count(su, r, store, lens, rows);
@@ -64,7 +63,7 @@ pub extern "C" fn silotwist_window(
     }
     let su = face_reading::setup(setup);
     if record.len() < 6 {
-        return telling::put(answer, schedule_answers::short_record(su));
+        return schedule_answers::short(answer, su);
     }
     let r = face_reading::record(record);
     let from = face_reading::time(from_secs, from_nanos);
@@ -96,16 +95,13 @@ pub extern "C" fn silotwist_reset(
     }
     let su = face_reading::setup(setup);
     if record.len() < 6 {
-        return telling::put(answer, schedule_answers::short_record(su));
+        return schedule_answers::short(answer, su);
     }
     let r = face_reading::record(record);
     let c = schedule_public::reset(su, r, store, lens, rows);
-    let next = c.next;
     let a = c.answer;
     let w = schedule_answers::cleared(a);
-    writing::count(record, next.count);
-    writing::mark(record, w.number, false);
-    telling::put(answer, w)
+    telling::with_reset(record, c.next.count, answer, w)
 }
 
 #[no_mangle]
@@ -134,7 +130,7 @@ pub extern "C" fn silotwist_fresh(
     }
     let su = face_reading::setup(setup);
     if record.len() < 6 {
-        return telling::put(answer, schedule_answers::short_record(su));
+        return schedule_answers::short(answer, su);
     }
     let r = face_reading::record(record);
     let t = face_reading::time(clock_secs, clock_nanos);
@@ -143,9 +139,7 @@ pub extern "C" fn silotwist_fresh(
         nanos: margin_nanos,
     };
     let c = schedule::fresh_start(su, r, store, lens, rows, t, m);
-    let next = c.next;
     let a = c.answer;
     let w = schedule_answers::done(a);
-    writing::all(record, w.number, next);
-    telling::put(answer, w)
+    telling::with_all(record, c.next, answer, w)
 }

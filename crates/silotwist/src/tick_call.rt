@@ -1,6 +1,5 @@
 // The release tick.
 use face_words::telling;
-use face_words::writing;
 ghost use Rattle.face_reading.specs.Reading.{word};
 ghost use Rattle.silotwist.specs.ScheduleFace.{countWritten, judgedCall};
 ghost use Rattle.silotwist.specs.TickFace.{TickFaces};
@@ -30,14 +29,12 @@ pub extern "C" fn silotwist_tick(
     }
     let su = face_reading::setup(setup);
     if record.len() < 6 {
-        return telling::put(answer, schedule_answers::short_record(su));
+        return schedule_answers::short(answer, su);
     }
     let r = face_reading::record(record);
     let most = limit as usize;
     let c = tick::tick(su, r, store, lens, rows, log, most, delete_packets);
-    let next = c.next;
     let a = c.answer;
     let w = schedule_answers::ticked(a);
-    writing::count(record, next.count);
-    telling::put(answer, w)
+    telling::with_count(record, c.next.count, answer, w)
 }

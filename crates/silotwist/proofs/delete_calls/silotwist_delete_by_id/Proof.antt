@@ -3,6 +3,7 @@
 use Rattle.by_id.specs.ById.{deleteByIdIn}
 use Rattle.silotwist.specs.ScheduleFace.{countWritten}
 use Rattle.silotwist.proofs.ScheduleCalls.{changes, changes-no-answer, changes-short}
+use mathlib.Core.Path.{refl}
 use borrow.Author.Needs.{needs}
 use Rattle.silotwist.proofs.delete_calls.silotwist_delete_by_id.Statement.{statement}
 use Rattle.silotwist.proofs.delete_calls.silotwist_delete_by_id.Tie as tie
@@ -13,41 +14,37 @@ returns c =
     changes-no-answer (a .answer .now) (a .setup .now) (a .«record» .now) (a .store .now) (a .lens .now) (a .rows .now) (λ su. deleteByIdIn
     (a .request-id)) (countWritten (a .«record» .now)) (c .if1 .taken)
 
-put-requires : tie.Need-put-requires
-put-requires c κs = c .before .before .before .before .if1 .left
+short-requires : tie.Need-short-requires
+short-requires c κs = c .before .before .before .if1 .left
 
 returns-2 : tie.Need-returns-2
 returns-2 c =
-    let a = c .before .before .before .before .before .before .before .before .before .before .before .before .before .before .args in
-    changes-short (a .answer .now) (a .setup .now) (a .«record» .now) (a .store .now) (a .lens .now) (a .rows .now) (λ su. deleteByIdIn
-    (a .request-id)) (countWritten (a .«record» .now)) _ _ _ _ (c .before .before .before .before .before .before .before .if1 .left)
-    (c .before .before .before .before .before .before .setup .ensures) (c .before .before .before .before .before .if2 .taken)
-    (c .before .before .before .short-record .ensures) (c .before .before .put .ensures .0) (c .before .before .put .ensures .1)
+    let a = c .before .before .before .before .before .before .before .before .before .before .before .before .before .args in
+    changes-short (a .answer .now) (a .setup .now) (a .«record» .now) (a .store .now) (a .lens .now) (a .rows .now) (λ su. deleteByIdIn (a .request-id)) (countWritten (a .«record» .now)) _ _ _ _ (c .before .before .before .before .before .before .if1 .left) (c .before .before .before .before .before .setup .ensures)
+    (c .before .before .before .before .if2 .taken) refl (c .before .before .short .ensures .0) (c .before .before .short .ensures .1)
 
-put-requires-2 : tie.Need-put-requires-2
-put-requires-2 c κs =
-    let q = c .before .before .before .before .before .before .before .before .before .before .before .before in
-    let p1 = q .before .before .before .before .before .before .before .before .before in
-    p1 .if1 .left
+with-count-requires : tie.Need-with-count-requires
+with-count-requires c κs =
+    let p = c .before .before .before .before .before .before .before .before .before .before .before .before .before .before .before in
+    (p .if2 .left, p .before .before .if1 .left)
 
 returns-3 : tie.Need-returns-3
 returns-3 c =
-    let p1 = c .before .before in
-    let p2 = p1 .before .before .before .before in
-    let p3 = p2 .before .before in
-    let p4 = p3 .before .before .before .before .before .before .before .before in
-    let p5 = p4 .before .before .before .before in
-    let p6 = p5 .before .before in
+    let p1 = c .before .before .before .before in
+    let p2 = p1 .before .before .before in
+    let p3 = p2 .before .before .before .before .before .before .before in
+    let p4 = p3 .before .before .before .before in
+    let p5 = p4 .before .before in
+    let p6 = p5 .before in
     let p7 = p6 .before in
-    let p8 = p7 .before in
-    let p9 = p8 .before .before .before .before .before .before .before in
-    let a = p9 .args in
+    let p8 = p7 .before .before .before .before .before .before .before in
+    let a = p8 .args in
     changes (a .answer .now) (a .setup .now) (a .«record» .now) (a .store .now) (a .lens .now) (a .rows .now) (λ su. deleteByIdIn
     (a .request-id)) _ _ _ _ _ _ _ _ _ _ _
-    (p8 .if1 .left) (p7 .setup .ensures) (p6 .if2 .left) (p5 .«record» .ensures)
-    (p4 .delete-by-request-id-and-from-pool .ensures)
-    (p3 .freed .ensures) (p1 .put2 .ensures .0)
-    (p1 .put2 .ensures .1) (p2 .count .ensures)
+    (p7 .if1 .left) (p6 .setup .ensures) (p5 .if2 .left) (p4 .«record» .ensures)
+    (p3 .delete-by-request-id-and-from-pool .ensures)
+    (p2 .freed .ensures) (p1 .with-count .ensures .number)
+    (p1 .with-count .ensures .words) (p1 .with-count .ensures .written)
 
 pub silotwist-delete-by-id-spec : {M : Type 1} → statement M
 silotwist-delete-by-id-spec =
@@ -55,15 +52,13 @@ silotwist-delete-by-id-spec =
     (tie.spec
     returns
     (λ c κs. search needs)
-    (λ c κs. search needs)
-    put-requires
+    short-requires
     (λ c. search needs)
     returns-2
     (λ c κs. search needs)
     (λ c κs. search needs)
     (λ c κs. search needs)
-    (λ c κs. search needs)
-    put-requires-2
+    with-count-requires
     (λ c. search needs)
     (λ c. search needs)
     (λ c. search needs)

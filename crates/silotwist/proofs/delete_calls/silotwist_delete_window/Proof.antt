@@ -5,7 +5,7 @@ use Rattle.face_reading.specs.Reading.{windowFrom}
 use Rattle.silotwist.specs.ScheduleFace.{countWritten}
 use Rattle.silotwist.proofs.ScheduleCalls.{changes-at, changes-no-answer, changes-short}
 use Rattle.face_reading.proofs.Seconds.{held-time}
-use mathlib.Core.Path.{_∙_, ap₂}
+use mathlib.Core.Path.{_∙_, ap₂, refl}
 use borrow.Author.Needs.{needs}
 use Rattle.silotwist.proofs.delete_calls.silotwist_delete_window.Statement.{statement}
 use Rattle.silotwist.proofs.delete_calls.silotwist_delete_window.Tie as tie
@@ -17,50 +17,44 @@ returns c =
     (windowFrom (a .has-from) (record { secs = a .from-secs; nanos = a .from-nanos }) (a .has-to)
     (record { secs = a .to-secs; nanos = a .to-nanos }))) (countWritten (a .«record» .now)) (c .if1 .taken)
 
-put-requires : tie.Need-put-requires
-put-requires c κs = c .before .before .before .before .if1 .left
+short-requires : tie.Need-short-requires
+short-requires c κs = c .before .before .before .if1 .left
 
 returns-2 : tie.Need-returns-2
 returns-2 c =
-    let a = c .before .before .before .before .before .before .before .before .before .before .before .before .before .before .args in
-    changes-short (a .answer .now) (a .setup .now) (a .«record» .now) (a .store .now) (a .lens .now) (a .rows .now) (λ su. deleteWindowIn
-    (windowFrom (a .has-from) (record { secs = a .from-secs; nanos = a .from-nanos }) (a .has-to)
-    (record { secs = a .to-secs; nanos = a .to-nanos }))) (countWritten (a .«record» .now)) _ _ _ _
-    (c .before .before .before .before .before .before .before .if1 .left) (c .before .before .before .before .before .before .setup .ensures)
-    (c .before .before .before .before .before .if2 .taken)
-    (c .before .before .before .short-record .ensures) (c .before .before .put .ensures .0) (c .before .before .put .ensures .1)
+    let a = c .before .before .before .before .before .before .before .before .before .before .before .before .before .args in
+    changes-short (a .answer .now) (a .setup .now) (a .«record» .now) (a .store .now) (a .lens .now) (a .rows .now) (λ su. deleteWindowIn (windowFrom (a .has-from) (record { secs = a .from-secs; nanos = a .from-nanos }) (a .has-to) (record { secs = a .to-secs; nanos = a .to-nanos }))) (countWritten (a .«record» .now)) _ _ _ _ (c .before .before .before .before .before .before .if1 .left) (c .before .before .before .before .before .setup .ensures)
+    (c .before .before .before .before .if2 .taken) refl (c .before .before .short .ensures .0) (c .before .before .short .ensures .1)
 
-put-requires-2 : tie.Need-put-requires-2
-put-requires-2 c κs =
-    let q = c .before .before .before .before .before .before .before .before .before .before .before .before in
-    let p1 = q .before .before .before .before .before .before .before .before .before .before .before .before in
-    p1 .if1 .left
+with-count-requires : tie.Need-with-count-requires
+with-count-requires c κs =
+    let p = c .before .before .before .before .before .before .before .before .before .before .before .before .before .before .before .before .before .before in
+    (p .if2 .left, p .before .before .if1 .left)
 
 returns-3 : tie.Need-returns-3
 returns-3 c =
-    let p1 = c .before .before in
-    let p2 = p1 .before .before .before .before in
-    let p3 = p2 .before .before in
-    let p4 = p3 .before .before .before .before .before .before .before .before in
-    let p5 = p4 .before .before .before .before in
+    let p1 = c .before .before .before .before in
+    let p2 = p1 .before .before .before in
+    let p3 = p2 .before .before .before .before .before .before .before in
+    let p4 = p3 .before .before .before .before in
+    let p5 = p4 .before in
     let p6 = p5 .before in
     let p7 = p6 .before in
-    let p8 = p7 .before in
-    let p9 = p8 .before .before in
+    let p8 = p7 .before .before in
+    let p9 = p8 .before in
     let p10 = p9 .before in
-    let p11 = p10 .before in
-    let p12 = p11 .before .before .before .before .before .before .before in
-    let a = p12 .args in
-    let from = held-time (a .from-secs) (a .from-nanos) _ (p12 .fits .from-secs) (p7 .time .ensures) in
-    let to = held-time (a .to-secs) (a .to-nanos) _ (p12 .fits .to-secs) (p6 .time2 .ensures) in
+    let p11 = p10 .before .before .before .before .before .before .before in
+    let a = p11 .args in
+    let from = held-time (a .from-secs) (a .from-nanos) _ (p11 .fits .from-secs) (p6 .time .ensures) in
+    let to = held-time (a .to-secs) (a .to-nanos) _ (p11 .fits .to-secs) (p5 .time2 .ensures) in
     changes-at (a .answer .now) (a .setup .now) (a .«record» .now) (a .store .now) (a .lens .now) (a .rows .now) (λ v su. deleteWindowIn v) _
     (windowFrom (a .has-from) (record { secs = a .from-secs; nanos = a .from-nanos }) (a .has-to)
     (record { secs = a .to-secs; nanos = a .to-nanos }))
-    (p5 .window .ensures ∙ ap₂ (λ x y. windowFrom (a .has-from) x (a .has-to) y) from to) _ _ _ _ _ _ _ _ _ _ _
-    (p11 .if1 .left) (p10 .setup .ensures) (p9 .if2 .left) (p8 .«record» .ensures)
-    (p4 .delete-by-time-filter .ensures)
-    (p3 .cleared .ensures) (p1 .put2 .ensures .0)
-    (p1 .put2 .ensures .1) (p2 .count .ensures)
+    (p4 .window .ensures ∙ ap₂ (λ x y. windowFrom (a .has-from) x (a .has-to) y) from to) _ _ _ _ _ _ _ _ _ _ _
+    (p10 .if1 .left) (p9 .setup .ensures) (p8 .if2 .left) (p7 .«record» .ensures)
+    (p3 .delete-by-time-filter .ensures)
+    (p2 .cleared .ensures) (p1 .with-count .ensures .number)
+    (p1 .with-count .ensures .words) (p1 .with-count .ensures .written)
 
 pub silotwist-delete-window-spec : {M : Type 1} → statement M
 silotwist-delete-window-spec =
@@ -68,8 +62,7 @@ silotwist-delete-window-spec =
     (tie.spec
     returns
     (λ c κs. search needs)
-    (λ c κs. search needs)
-    put-requires
+    short-requires
     (λ c. search needs)
     returns-2
     (λ c κs. search needs)
@@ -78,8 +71,7 @@ silotwist-delete-window-spec =
     (λ c κs. search needs)
     (λ c κs. search needs)
     (λ c κs. search needs)
-    (λ c κs. search needs)
-    put-requires-2
+    with-count-requires
     (λ c. search needs)
     (λ c. search needs)
     (λ c. search needs)

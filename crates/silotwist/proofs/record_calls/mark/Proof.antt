@@ -19,22 +19,26 @@ returns-2 c = record-short (c .before .before .before .before .before .before .b
     (c .before .before .before .before .before .before .if1 .left) (c .before .before .before .before .before .if2 .taken)
     (c .before .before .before .none .ensures) (c .before .before .put .ensures .0) (c .before .before .put .ensures .1)
 
+with-mark-requires : tie.Need-with-mark-requires
+with-mark-requires c κs =
+    let p = c .before .before .before .before .before .before in
+    (p .if2 .left, p .before .if1 .left)
+
 returns-3 : tie.Need-returns-3
 returns-3 c =
-    let p1 = c .before .before in
-    let p2 = p1 .before .before .before .before in
-    let p3 = p2 .before .before in
+    let p1 = c .before .before .before .before in
+    let p2 = p1 .before .before .before in
+    let p3 = p2 .before in
     let p4 = p3 .before in
-    let p5 = p4 .before in
-    let p6 = p5 .before .before in
-    let p7 = p6 .before in
-    let p8 = p7 .before .before .before in
-    mark-face (p8 .args .answer .now) (p8 .args .«record» .now) _ (p5 .«record» .ensures) _ _ (p3 .done .ensures) _ _ _
-    (p7 .if1 .left)
-    (p6 .if2 .left)
-    (p1 .put2 .ensures .0) (p1 .put2 .ensures .1) _
-    (p4 .marked .ensures)
-    (p2 .mark .ensures)
+    let p5 = p4 .before .before in
+    let p6 = p5 .before in
+    let p7 = p6 .before .before .before in
+    mark-face (p7 .args .answer .now) (p7 .args .«record» .now) _ (p4 .«record» .ensures) _ _ (p2 .done .ensures) _ _ _
+    (p6 .if1 .left)
+    (p5 .if2 .left)
+    (p1 .with-mark .ensures .number) (p1 .with-mark .ensures .words) _
+    (p3 .marked .ensures)
+    (p1 .with-mark .ensures .written)
 
 pub mark-spec : {M : Type 1} → statement M
 mark-spec =
@@ -48,8 +52,7 @@ mark-spec =
     (λ c κs. search needs)
     (λ c κs. search needs)
     (λ c κs. search needs)
-    (λ c κs. search needs)
-    (λ c κs. search needs)
+    with-mark-requires
     (λ c. search needs)
     (λ c. search needs)
     returns-3)

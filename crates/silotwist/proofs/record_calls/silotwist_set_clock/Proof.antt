@@ -29,22 +29,26 @@ returns-2 c =
     (record { secs = p5 .args .secs; nanos = p5 .args .nanos })) (clockWritten (p5 .args .«record» .now)) _ _ _
     (p4 .if1 .left) (p3 .if2 .taken) (p2 .none .ensures) (p1 .put .ensures .0) (p1 .put .ensures .1)
 
+with-clock-requires : tie.Need-with-clock-requires
+with-clock-requires c κs =
+    let p = c .before .before .before .before .before .before in
+    (p .if2 .left, p .before .if1 .left)
+
 returns-3 : tie.Need-returns-3
 returns-3 c =
-    let p1 = c .before .before in
-    let p2 = p1 .before .before .before .before in
-    let p3 = p2 .before .before in
+    let p1 = c .before .before .before .before in
+    let p2 = p1 .before .before .before in
+    let p3 = p2 .before in
     let p4 = p3 .before in
-    let p5 = p4 .before in
-    let p6 = p5 .before .before in
-    let p7 = p6 .before in
-    let p8 = p7 .before .before .before in
-    let f : SFits w64 (p8 .args .secs) = search needs in
-    clock-face (p8 .args .answer .now) (p8 .args .«record» .now) _ (p5 .«record» .ensures) _ _ (p3 .done .ensures) _ _ _
-    (p7 .if1 .left)
-    (p6 .if2 .left)
-    (p1 .put2 .ensures .0) (p1 .put2 .ensures .1) _ _
-    (ap (λ (z : ℤ). record { secs = z; nanos = p8 .args .nanos }) (toZ-ofZ f)) (p4 .clocked .ensures) (p2 .clock .ensures)
+    let p5 = p4 .before .before in
+    let p6 = p5 .before in
+    let p7 = p6 .before .before .before in
+    let f : SFits w64 (p7 .args .secs) = search needs in
+    clock-face (p7 .args .answer .now) (p7 .args .«record» .now) _ (p4 .«record» .ensures) _ _ (p2 .done .ensures) _ _ _
+    (p6 .if1 .left)
+    (p5 .if2 .left)
+    (p1 .with-clock .ensures .number) (p1 .with-clock .ensures .words) _ _
+    (ap (λ (z : ℤ). record { secs = z; nanos = p7 .args .nanos }) (toZ-ofZ f)) (p3 .clocked .ensures) (p1 .with-clock .ensures .written)
 
 pub silotwist-set-clock-spec : {M : Type 1} → statement M
 silotwist-set-clock-spec =
@@ -58,8 +62,7 @@ silotwist-set-clock-spec =
     (λ c κs. search needs)
     (λ c κs. search needs)
     (λ c κs. search needs)
-    (λ c κs. search needs)
-    (λ c κs. search needs)
+    with-clock-requires
     (λ c. search needs)
     (λ c. search needs)
     returns-3)

@@ -2,6 +2,7 @@
 -- Assumes nothing.
 use Rattle.schedule.specs.Counting.{countIn}
 use Rattle.silotwist.proofs.ScheduleCalls.{looks, looks-no-answer, looks-short}
+use mathlib.Core.Path.{refl}
 use borrow.Author.Needs.{needs}
 use Rattle.silotwist.proofs.schedule_calls.silotwist_count.Statement.{statement}
 use Rattle.silotwist.proofs.schedule_calls.silotwist_count.Tie as tie
@@ -12,19 +13,17 @@ returns c =
     looks-no-answer (a .answer .now) (a .setup .now) (a .«record» .now) (a .store .now) (a .lens .now) (a .rows .now) (λ su. countIn)
     (c .if1 .taken)
 
-put-requires : tie.Need-put-requires
-put-requires c κs = c .before .before .before .before .if1 .left
+short-requires : tie.Need-short-requires
+short-requires c κs = c .before .before .before .if1 .left
 
 returns-2 : tie.Need-returns-2
 returns-2 c =
-    let a = c .before .before .before .before .before .before .before .before .before .before .before .before .before .before .args in
-    looks-short (a .answer .now) (a .setup .now) (a .«record» .now) (a .store .now) (a .lens .now) (a .rows .now) (λ su. countIn) _ _ _ _
-    (c .before .before .before .before .before .before .before .if1 .left) (c .before .before .before .before .before .before .setup .ensures)
-    (c .before .before .before .before .before .if2 .taken)
-    (c .before .before .before .short-record .ensures) (c .before .before .put .ensures .0) (c .before .before .put .ensures .1)
+    let a = c .before .before .before .before .before .before .before .before .before .before .before .before .before .args in
+    looks-short (a .answer .now) (a .setup .now) (a .«record» .now) (a .store .now) (a .lens .now) (a .rows .now) (λ su. countIn) _ _ _ _ (c .before .before .before .before .before .before .if1 .left) (c .before .before .before .before .before .setup .ensures)
+    (c .before .before .before .before .if2 .taken) refl (c .before .before .short .ensures .0) (c .before .before .short .ensures .1)
 
-put-requires-2 : tie.Need-put-requires-2
-put-requires-2 c κs = c .before .before .before .before .before .before .if1 .left
+put-requires : tie.Need-put-requires
+put-requires c κs = c .before .before .before .before .before .before .if1 .left
 
 returns-3 : tie.Need-returns-3
 returns-3 c =
@@ -35,7 +34,7 @@ returns-3 c =
     (c .before .before .before .before .before .before .before .if2 .left)
     (c .before .before .before .before .before .before .«record» .ensures)
     (c .before .before .before .before .before .count .ensures)
-    (c .before .before .before .before .counted .ensures) (c .before .before .put2 .ensures .0) (c .before .before .put2 .ensures .1)
+    (c .before .before .before .before .counted .ensures) (c .before .before .put .ensures .0) (c .before .before .put .ensures .1)
 
 pub silotwist-count-spec : {M : Type 1} → statement M
 silotwist-count-spec =
@@ -43,13 +42,12 @@ silotwist-count-spec =
     (tie.spec
     returns
     (λ c κs. search needs)
-    (λ c κs. search needs)
-    put-requires
+    short-requires
     (λ c. search needs)
     returns-2
     (λ c κs. search needs)
     (λ c κs. search needs)
     (λ c κs. search needs)
-    put-requires-2
+    put-requires
     (λ c. search needs)
     returns-3)

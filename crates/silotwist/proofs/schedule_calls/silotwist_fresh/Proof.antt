@@ -2,6 +2,7 @@
 -- Assumes nothing.
 use Rattle.silotwist.proofs.Resetting.{starts-at, starts-no-answer, starts-short}
 use Rattle.face_reading.proofs.Seconds.{held-time}
+use mathlib.Core.Path.{refl}
 use borrow.Author.Needs.{needs}
 use Rattle.silotwist.proofs.schedule_calls.silotwist_fresh.Statement.{statement}
 use Rattle.silotwist.proofs.schedule_calls.silotwist_fresh.Tie as tie
@@ -12,43 +13,39 @@ returns c =
     starts-no-answer (a .answer .now) (a .setup .now) (a .«record» .now) (a .store .now) (a .lens .now) (a .rows .now)
     (record { secs = a .clock-secs; nanos = a .clock-nanos }) (record { secs = a .margin-secs; nanos = a .margin-nanos }) (c .if1 .taken)
 
-put-requires : tie.Need-put-requires
-put-requires c κs = c .before .before .before .before .if1 .left
+short-requires : tie.Need-short-requires
+short-requires c κs = c .before .before .before .if1 .left
 
 returns-2 : tie.Need-returns-2
 returns-2 c =
-    let a = c .before .before .before .before .before .before .before .before .before .before .before .before .before .before .args in
-    starts-short (a .answer .now) (a .setup .now) (a .«record» .now) (a .store .now) (a .lens .now) (a .rows .now)
-    (record { secs = a .clock-secs; nanos = a .clock-nanos }) (record { secs = a .margin-secs; nanos = a .margin-nanos }) _ _ _ _
-    (c .before .before .before .before .before .before .before .if1 .left) (c .before .before .before .before .before .before .setup .ensures)
-    (c .before .before .before .before .before .if2 .taken)
-    (c .before .before .before .short-record .ensures) (c .before .before .put .ensures .0) (c .before .before .put .ensures .1)
+    let a = c .before .before .before .before .before .before .before .before .before .before .before .before .before .args in
+    starts-short (a .answer .now) (a .setup .now) (a .«record» .now) (a .store .now) (a .lens .now) (a .rows .now) (record { secs = a .clock-secs; nanos = a .clock-nanos }) (record { secs = a .margin-secs; nanos = a .margin-nanos }) _ _ _ _ (c .before .before .before .before .before .before .if1 .left) (c .before .before .before .before .before .setup .ensures)
+    (c .before .before .before .before .if2 .taken) refl (c .before .before .short .ensures .0) (c .before .before .short .ensures .1)
 
-put-requires-2 : tie.Need-put-requires-2
-put-requires-2 c κs =
-    let q = c .before .before .before .before .before .before .before .before .before .before .before .before in
-    let p1 = q .before .before .before .before .before .before .before .before .before .before in
-    p1 .if1 .left
+with-all-requires : tie.Need-with-all-requires
+with-all-requires c κs =
+    let p = c .before .before .before .before .before .before .before .before .before .before .before .before .before .before .before .before in
+    (p .if2 .left, p .before .before .if1 .left)
 
 returns-3 : tie.Need-returns-3
 returns-3 c =
-    let p1 = c .before .before in
-    let p2 = p1 .before .before .before .before in
-    let p3 = p2 .before .before in
-    let p4 = p3 .before .before .before .before .before .before .before .before in
-    let p5 = p4 .before .before .before .before in
-    let p6 = p5 .before .before .before in
+    let p1 = c .before .before .before .before in
+    let p2 = p1 .before .before .before in
+    let p3 = p2 .before .before .before .before .before .before .before in
+    let p4 = p3 .before .before .before .before in
+    let p5 = p4 .before in
+    let p6 = p5 .before .before in
     let p7 = p6 .before in
     let p8 = p7 .before in
     let p9 = p8 .before .before .before .before .before .before .before in
     let a = p9 .args in
     starts-at (a .answer .now) (a .setup .now) (a .«record» .now) (a .store .now) (a .lens .now) (a .rows .now) _
     (record { secs = a .clock-secs; nanos = a .clock-nanos }) (record { secs = a .margin-secs; nanos = a .margin-nanos }) (held-time _ _ _
-    (p9 .fits .clock-secs) (p5 .time .ensures)) _ _ _ _ _ _ _ _ _ _ _
+    (p9 .fits .clock-secs) (p4 .time .ensures)) _ _ _ _ _ _ _ _ _ _ _
     (p8 .if1 .left) (p7 .setup .ensures) (p6 .if2 .left)
-    (p4 .fresh-start .ensures)
-    (p3 .done .ensures) (p1 .put2 .ensures .0)
-    (p1 .put2 .ensures .1) (p2 .all .ensures)
+    (p3 .fresh-start .ensures)
+    (p2 .done .ensures) (p1 .with-all .ensures .number)
+    (p1 .with-all .ensures .words) (p1 .with-all .ensures .written)
 
 pub silotwist-fresh-spec : {M : Type 1} → statement M
 silotwist-fresh-spec =
@@ -56,16 +53,14 @@ silotwist-fresh-spec =
     (tie.spec
     returns
     (λ c κs. search needs)
-    (λ c κs. search needs)
-    put-requires
+    short-requires
     (λ c. search needs)
     returns-2
     (λ c κs. search needs)
     (λ c κs. search needs)
     (λ c κs. search needs)
     (λ c κs. search needs)
-    (λ c κs. search needs)
-    put-requires-2
+    with-all-requires
     (λ c. search needs)
     (λ c. search needs)
     (λ c. search needs)

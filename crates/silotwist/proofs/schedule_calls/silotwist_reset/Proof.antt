@@ -1,6 +1,7 @@
 -- `silotwist::schedule_calls::silotwist_reset` meets its contract.
 -- Assumes nothing.
 use Rattle.silotwist.proofs.Resetting.{resets, resets-no-answer, resets-short}
+use mathlib.Core.Path.{refl}
 use borrow.Author.Needs.{needs}
 use Rattle.silotwist.proofs.schedule_calls.silotwist_reset.Statement.{statement}
 use Rattle.silotwist.proofs.schedule_calls.silotwist_reset.Tie as tie
@@ -10,43 +11,37 @@ returns c =
     let a = c .before .before .before .before .before .before .before .args in
     resets-no-answer (a .answer .now) (a .setup .now) (a .«record» .now) (a .store .now) (a .lens .now) (a .rows .now) (c .if1 .taken)
 
-put-requires : tie.Need-put-requires
-put-requires c κs = c .before .before .before .before .if1 .left
+short-requires : tie.Need-short-requires
+short-requires c κs = c .before .before .before .if1 .left
 
 returns-2 : tie.Need-returns-2
 returns-2 c =
-    let a = c .before .before .before .before .before .before .before .before .before .before .before .before .before .before .args in
-    resets-short (a .answer .now) (a .setup .now) (a .«record» .now) (a .store .now) (a .lens .now) (a .rows .now) _ _ _ _
-    (c .before .before .before .before .before .before .before .if1 .left) (c .before .before .before .before .before .before .setup .ensures)
-    (c .before .before .before .before .before .if2 .taken)
-    (c .before .before .before .short-record .ensures) (c .before .before .put .ensures .0) (c .before .before .put .ensures .1)
+    let a = c .before .before .before .before .before .before .before .before .before .before .before .before .before .args in
+    resets-short (a .answer .now) (a .setup .now) (a .«record» .now) (a .store .now) (a .lens .now) (a .rows .now) _ _ _ _ (c .before .before .before .before .before .before .if1 .left) (c .before .before .before .before .before .setup .ensures)
+    (c .before .before .before .before .if2 .taken) refl (c .before .before .short .ensures .0) (c .before .before .short .ensures .1)
 
-put-requires-2 : tie.Need-put-requires-2
-put-requires-2 c κs =
-    let q = c .before .before .before .before .before .before .before .before .before .before .before .before in
-    let p1 = q .before .before .before .before .before .before .before .before .before .before .before .before .before in
-    p1 .if1 .left
+with-reset-requires : tie.Need-with-reset-requires
+with-reset-requires c κs =
+    let p = c .before .before .before .before .before .before .before .before .before .before .before .before .before .before .before in
+    (p .if2 .left, p .before .before .if1 .left)
 
 returns-3 : tie.Need-returns-3
 returns-3 c =
-    let p1 = c .before .before in
-    let p2 = p1 .before .before .before .before in
-    let p3 = p2 .before .before .before .before in
-    let p4 = p3 .before .before in
-    let p5 = p4 .before .before .before .before .before .before .before .before in
-    let p6 = p5 .before .before .before .before in
-    let p7 = p6 .before .before in
-    let p8 = p7 .before in
-    let p9 = p8 .before in
-    let p10 = p9 .before .before .before .before .before .before .before in
-    let a = p10 .args in
-    resets (a .answer .now) (a .setup .now) (a .«record» .now) (a .store .now) (a .lens .now) (a .rows .now) _ _ _ _ _ _ _ _ _ _ _ _
-    (p9 .if1 .left) (p8 .setup .ensures) (p7 .if2 .left) (p6 .«record» .ensures)
-    (p5 .reset .ensures)
-    (p4 .cleared .ensures)
-    (p1 .put2 .ensures .0) (p1 .put2 .ensures .1)
-    (p3 .count .ensures)
-    (p2 .mark .ensures)
+    let p1 = c .before .before .before .before in
+    let p2 = p1 .before .before .before in
+    let p3 = p2 .before .before .before .before .before .before .before in
+    let p4 = p3 .before .before .before .before in
+    let p5 = p4 .before .before in
+    let p6 = p5 .before in
+    let p7 = p6 .before in
+    let p8 = p7 .before .before .before .before .before .before .before in
+    let a = p8 .args in
+    resets (a .answer .now) (a .setup .now) (a .«record» .now) (a .store .now) (a .lens .now) (a .rows .now) _ _ _ _ _ _ _ _ _ _ _
+    (p7 .if1 .left) (p6 .setup .ensures) (p5 .if2 .left) (p4 .«record» .ensures)
+    (p3 .reset .ensures)
+    (p2 .cleared .ensures)
+    (p1 .with-reset .ensures .number) (p1 .with-reset .ensures .words)
+    (p1 .with-reset .ensures .written)
 
 pub silotwist-reset-spec : {M : Type 1} → statement M
 silotwist-reset-spec =
@@ -54,16 +49,13 @@ silotwist-reset-spec =
     (tie.spec
     returns
     (λ c κs. search needs)
-    (λ c κs. search needs)
-    put-requires
+    short-requires
     (λ c. search needs)
     returns-2
     (λ c κs. search needs)
     (λ c κs. search needs)
     (λ c κs. search needs)
-    (λ c κs. search needs)
-    (λ c κs. search needs)
-    put-requires-2
+    with-reset-requires
     (λ c. search needs)
     (λ c. search needs)
     (λ c. search needs)

@@ -4,7 +4,7 @@ use Rattle.windows.specs.Windowing.{retrieveIn}
 use Rattle.face_reading.specs.Reading.{windowFrom}
 use Rattle.silotwist.proofs.ScheduleCalls.{looks-at, looks-no-answer, looks-short}
 use Rattle.face_reading.proofs.Seconds.{held-time}
-use mathlib.Core.Path.{_∙_, ap₂}
+use mathlib.Core.Path.{_∙_, ap₂, refl}
 use borrow.Author.Needs.{needs}
 use Rattle.silotwist.proofs.schedule_calls.silotwist_window.Statement.{statement}
 use Rattle.silotwist.proofs.schedule_calls.silotwist_window.Tie as tie
@@ -16,20 +16,17 @@ returns c =
     (windowFrom (a .has-from) (record { secs = a .from-secs; nanos = a .from-nanos }) (a .has-to)
     (record { secs = a .to-secs; nanos = a .to-nanos }))) (c .if1 .taken)
 
-put-requires : tie.Need-put-requires
-put-requires c κs = c .before .before .before .before .if1 .left
+short-requires : tie.Need-short-requires
+short-requires c κs = c .before .before .before .if1 .left
 
 returns-2 : tie.Need-returns-2
 returns-2 c =
-    let a = c .before .before .before .before .before .before .before .before .before .before .before .before .before .before .args in
-    looks-short (a .answer .now) (a .setup .now) (a .«record» .now) (a .store .now) (a .lens .now) (a .rows .now) (λ su. retrieveIn (windowFrom
-    (a .has-from) (record { secs = a .from-secs; nanos = a .from-nanos }) (a .has-to)
-    (record { secs = a .to-secs; nanos = a .to-nanos }))) _ _ _ _ (c .before .before .before .before .before .before .before .if1 .left)
-    (c .before .before .before .before .before .before .setup .ensures) (c .before .before .before .before .before .if2 .taken)
-    (c .before .before .before .short-record .ensures) (c .before .before .put .ensures .0) (c .before .before .put .ensures .1)
+    let a = c .before .before .before .before .before .before .before .before .before .before .before .before .before .args in
+    looks-short (a .answer .now) (a .setup .now) (a .«record» .now) (a .store .now) (a .lens .now) (a .rows .now) (λ su. retrieveIn (windowFrom (a .has-from) (record { secs = a .from-secs; nanos = a .from-nanos }) (a .has-to) (record { secs = a .to-secs; nanos = a .to-nanos }))) _ _ _ _ (c .before .before .before .before .before .before .if1 .left) (c .before .before .before .before .before .setup .ensures)
+    (c .before .before .before .before .if2 .taken) refl (c .before .before .short .ensures .0) (c .before .before .short .ensures .1)
 
-put-requires-2 : tie.Need-put-requires-2
-put-requires-2 c κs = c .before .before .before .before .before .before .before .before .before .if1 .left
+put-requires : tie.Need-put-requires
+put-requires c κs = c .before .before .before .before .before .before .before .before .before .if1 .left
 
 returns-3 : tie.Need-returns-3
 returns-3 c =
@@ -55,7 +52,7 @@ returns-3 c =
     (p8 .if2 .left)
     (p7 .«record» .ensures)
     (p3 .retrieve-by-time-filter .ensures)
-    (p2 .retrieved .ensures) (p1 .put2 .ensures .0) (p1 .put2 .ensures .1)
+    (p2 .retrieved .ensures) (p1 .put .ensures .0) (p1 .put .ensures .1)
 
 pub silotwist-window-spec : {M : Type 1} → statement M
 silotwist-window-spec =
@@ -63,8 +60,7 @@ silotwist-window-spec =
     (tie.spec
     returns
     (λ c κs. search needs)
-    (λ c κs. search needs)
-    put-requires
+    short-requires
     (λ c. search needs)
     returns-2
     (λ c κs. search needs)
@@ -73,6 +69,6 @@ silotwist-window-spec =
     (λ c κs. search needs)
     (λ c κs. search needs)
     (λ c κs. search needs)
-    put-requires-2
+    put-requires
     (λ c. search needs)
     returns-3)
