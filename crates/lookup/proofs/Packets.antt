@@ -39,7 +39,7 @@ held-is x n b p q = let z : _≡_ {A = ℕ} 0 1 = cc in omega arith
 held-slot : (x : Found) (n : ℕ) (b : List ℕ) → x ≡ noSlot → x ≡ held n b → ⊥
 held-slot x n b p q = let z : _≡_ {A = ℕ} 0 1 = cc in omega arith
 
-held-vacant : (x : Found) (n : ℕ) (b : List ℕ) → x ≡ vacant → x ≡ held n b → ⊥
+pub held-vacant : (x : Found) (n : ℕ) (b : List ℕ) → x ≡ vacant → x ≡ held n b → ⊥
 held-vacant x n b p q = let z : _≡_ {A = ℕ} 0 1 = cc in omega arith
 
 pub spot-at : (su : Setup) (a : ℕ) (x : Found) (c : Cell) → spotOf su a x ≡ At c

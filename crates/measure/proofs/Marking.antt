@@ -4,6 +4,7 @@ use Prim.Native.Nat.{_+_, _<_, _≤_, ℕ}
 use Rattle.measure.specs.Marks.{Marked, added, marking, standing}
 use Rattle.rules.proofs.All.{all-each}
 use Rattle.rules.specs.Tests.{allOf, unless}
+use Rattle.rules.proofs.Cases.{eq-or-ne}
 use borrow.Author.Tests.{eqb-false, eqb-true, le-ltb, lt-ltb, ltb-false, ltb-true}
 use lib.Dec.{eqb, ltb}
 use lib.ListN.{getD, length, length-set, set}
@@ -20,13 +21,6 @@ lt-or-le a b = go (ltb a b) refl
     go : (t : Bool) → ltb a b ≡ t → (a < b) ⊎ (b ≤ a)
     go true e = inl (ltb-true a b e)
     go false e = inr (ltb-false a b e)
-
-pub eq-or-not : (a b : ℕ) → (a ≡ b) ⊎ (a ≡ b → ⊥)
-eq-or-not a b = go (eqb a b) refl
-  where
-    go : (t : Bool) → eqb a b ≡ t → (a ≡ b) ⊎ (a ≡ b → ⊥)
-    go true e = inl (eqb-true a b e)
-    go false e = inr (eqb-false a b e)
 
 -- what a row stands for
 module _ (all : ℕ) (le : List ℕ) (r : ℕ) where
@@ -120,5 +114,5 @@ module _ (del : Bool) (all : ℕ) (le₀ le : List ℕ) (r : ℕ) (long : all �
       record {
         same-length = length-marking all le r del ∙ k .same-length;
         kept = λ d. sym (marking-keep all le r del d) ∙ k .kept d;
-        rows = λ q. ⊎-elim (λ e. rw e (k .rows q)) (λ h. rw (h .3) (set-row (h .1) (h .2) q (eq-or-not q r))) (marking-cases all le r del);
+        rows = λ q. ⊎-elim (λ e. rw e (k .rows q)) (λ h. rw (h .3) (set-row (h .1) (h .2) q (eq-or-ne q r))) (marking-cases all le r del);
       }

@@ -1,7 +1,8 @@
 -- Subpools in which each address finds as many packet bytes as its row of the length table still stands for, turn by turn.
 -- Assumes nothing.
 use Prim.Native.Nat.{_≤_, ℕ}
-use Rattle.measure.proofs.Marking.{eq-or-not, marking-keep, standing-beyond, standing-gone, standing-marked, standing-other, standing-there}
+use Rattle.measure.proofs.Marking.{marking-keep, standing-beyond, standing-gone, standing-marked, standing-other, standing-there}
+use Rattle.rules.proofs.Cases.{eq-or-ne}
 use Rattle.measure.specs.Marks.{marking, standing}
 use Rattle.store.proofs.Rows.{RowSays, SameSlot, row-says, row-slot, slot-row}
 use Rattle.address.specs.Address.{poolOf, slotOf}
@@ -39,8 +40,8 @@ module _ (su : Setup) (le : List ℕ) where
 
   same-slot : (a b : ℕ) → SameSlot a b ⊎ (SameSlot a b → ⊥)
   same-slot a b =
-      ⊎-elim (λ p. ⊎-elim (λ q. inl (p, q)) (λ q. inr (λ e. q (e .1))) (eq-or-not (slotOf a) (slotOf b))) (λ p. inr (λ e. p (e .0)))
-      (eq-or-not (poolOf a) (poolOf b))
+      ⊎-elim (λ p. ⊎-elim (λ q. inl (p, q)) (λ q. inr (λ e. q (e .1))) (eq-or-ne (slotOf a) (slotOf b))) (λ p. inr (λ e. p (e .0)))
+      (eq-or-ne (poolOf a) (poolOf b))
 
   module _ (ps : List Pool) (a : ℕ) (long : allRows su ≤ length le) (s : Stands su le ps) where
     wiped-at : (b : ℕ) → SameSlot a b ⊎ (SameSlot a b → ⊥)

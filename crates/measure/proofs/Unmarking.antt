@@ -1,7 +1,8 @@
 -- Taking the marks off the length table: with all of them off it is the table that was there before.
 -- Assumes nothing.
 use Prim.Native.Nat.{_+_, _-_, _<_, _≤_, ℕ}
-use Rattle.measure.proofs.Marking.{eq-or-not, lt-or-le}
+use Rattle.measure.proofs.Marking.{lt-or-le}
+use Rattle.rules.proofs.Cases.{eq-or-ne}
 use Rattle.measure.specs.Marks.{Marked, Unmarked, added, bare}
 use Rattle.rules.specs.Tests.{allOf, unless}
 use Rattle.store.proofs.Rows.{row-plain}
@@ -44,7 +45,7 @@ pub unmarked-more : (i : ℕ) (le₀ le : List ℕ) → i < length le → Unmark
 unmarked-more i le₀ le h u =
     record {
       same-length = length-set le i (bare (getD le i 0)) ∙ u .same-length;
-      low = λ r l. low r l (eq-or-not r i);
+      low = λ r l. low r l (eq-or-ne r i);
       high = λ r l. getD-set-other le i r (bare (getD le i 0)) 0 (λ e. omega arith) ∙ u .high r (omega arith);
     }
   where

@@ -2,6 +2,7 @@
 use Prim.Native.Nat.{suc, zero, ℕ}
 use Rattle.rules.specs.Papers.{Paper, after, no, says}
 use Rattle.store.proofs.Chosen.{Open}
+use Rattle.lookup.proofs.Packets.{held-vacant}
 use Rattle.address.specs.Address.{addressOf}
 use Rattle.store.specs.Calls.{place}
 use Rattle.slots.specs.Pools.{Choice, Found, Pool, Slot, allTaken, findAt, findSlot, free, held, into, seen, taken, tooLarge, vacant}
@@ -68,11 +69,8 @@ slot-vacant (p ∷ ps) zero i q = nth-vacant (p .slots) i q
 slot-vacant (p ∷ ps) (suc k) i q = slot-vacant ps k i q
 
 -- a taken slot is not the one that an addition chooses
-clash : (x : Found) (n : ℕ) (b : List ℕ) → x ≡ vacant → x ≡ held n b → ⊥
-clash x n b p q = let z : _≡_ {A = ℕ} 0 1 = cc in omega arith
-
 pub not-chosen : (ps : List Pool) (k i m j n : ℕ) (b : List ℕ) → theSlot ps k i ≡ some (taken n b) → findAt ps m j ≡ vacant → (k ≡ m) × (i ≡ j) → ⊥
-not-chosen ps k i m j n b h v e = clash (findAt ps k i) n b (rw (e .0, e .1) v) (slot-seen ps k i (taken n b) h)
+not-chosen ps k i m j n b h v e = held-vacant (findAt ps k i) n b (rw (e .0, e .1) v) (slot-seen ps k i (taken n b) h)
 
 pub placed-keeps : (ps : List Pool) (d : List ℕ) (x : Choice) → Open ps (length d) x → (k i n : ℕ) (b : List ℕ) → theSlot ps k i ≡ some (taken n b)
     → theSlot (after (place ps d x) ps (λ qs. qs)) k i ≡ some (taken n b)

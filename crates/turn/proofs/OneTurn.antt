@@ -5,7 +5,7 @@ use Rattle.log.specs.Log.{recordBytes}
 use Rattle.rules.specs.Papers.{Paper, done, refused, says}
 use Rattle.lookup.proofs.Asks.{found-held-at}
 use Rattle.store.proofs.Laid.{leaves-as, leaves-same}
-use Rattle.slots.proofs.Lists.{taken-out}
+use Rattle.slots.proofs.Lists.{part-length, taken-out}
 use Rattle.store.specs.Calls.{deleteIn}
 use Rattle.lookup.specs.Calls.{ifHeld, ifNamed, packetIn}
 use Rattle.layout.specs.Limits.{maxSlotSize}
@@ -60,10 +60,6 @@ missing-by a p noSlot q = tt
 missing-by a p vacant q = tt
 missing-by a p (held m b) q = let z : _≡_ {A = ℕ} 0 1 = cc in absurd (omega arith)
 
-part-long : (from n : ℕ) (st : List ℕ) → from + n ≤ length st → length (part from n st) ≡ n
-unfolding part
-part-long from n st h = simp (length-take, length-drop) (min-eq-left (omega arith))
-
 module _ (su : Setup) (st le : List ℕ) (a : ℕ) where
   pub deleted : (del : Bool) (p : Paper) (st′ le′ : List ℕ) → del ≡ true → Does su st le (λ ps. deleteIn ps a) p st′ le′
       → Leaves su st le (leave del (view su st le) a) st′ le′
@@ -113,7 +109,7 @@ module _ (su : Setup) (st le : List ℕ) (a : ℕ) where
     packet-is = let h = found-held-at su st le a s at-span in rw (h .1) (h .2)
 
     pub long-here : length (packetOf (find (view su st le) a)) ≡ s .len
-    long-here = ap length packet-is ∙ part-long (s .from) (s .len) st (span-in .0)
+    long-here = ap length packet-is ∙ part-length (s .from) (s .len) st (span-in .0)
 
     -- the part of the store that the code lends
     lent-is : take (s .from + s .len - s .from) (drop (s .from) st) ≡ packetOf (find (view su st le) a)
