@@ -92,7 +92,9 @@ module _ (su : Setup) (r : Record) (st le ro : List ℕ) (f : Facts su r st le r
     match-is found =
         let h : victim id (unpack (r .count) ro) < length (unpack (r .count) ro) = omega (arith, q, length-unpack (r .count) ro) in
         a-match id found (stateOf su r st le ro) h
-        ∙ rw (← q) (ap (λ (e : Entry). found (e .addr) (withEntries (without k 1 (unpack (r .count) ro)) (stateOf su r st le ro))) (getD-unpack (r .count) ro k none l))
+        ∙ rw (← q)
+        (ap (λ (e : Entry). found (e .addr) (withEntries (without k 1 (unpack (r .count) ro)) (stateOf su r st le ro)))
+        (getD-unpack (r .count) ro k none l))
 
     pub keep-done : (a : ℕ) (n : Record) (ro′ : List ℕ) → a ≡ row ro k .addr → n ≡ withCount (r .count - 1) r → ro′ ≡ afterRemove ro (r .count) k 1
         → Does su r st le ro (deleteKeepingIn id) (no 0 (1 ∷ a ∷ [])) n st le ro′

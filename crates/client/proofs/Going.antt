@@ -33,7 +33,9 @@ pub record Going (su : Setup) (st₀ le₀ addrs st le : List ℕ) (gone i : ℕ
   pub counts : gone + countAll (drop i addrs) (view su st le) ≡ countAll addrs (view su st₀ le₀)
 
 pub going-first : (su : Setup) (st le addrs : List ℕ) → Sound su st le → Going su st le addrs st le 0 0
-going-first su st le addrs s = record { at-most = omega arith; few = omega arith; sound = s; frame = leaves-same su st le; goes = refl; counts = omega arith }
+going-first su st le addrs s =
+    record
+    { at-most = omega arith; few = omega arith; sound = s; frame = leaves-same su st le; goes = refl; counts = omega arith }
 
 -- the answer tells whether the packet was there
 pub count-is : (ps : List Pool) (a : ℕ) (r : Deleted) → deletedPaper r ≡ says (deleteIn ps a) → oneIfDone r ≡ one ps a
@@ -53,14 +55,16 @@ count-is ps a r q = go (find ps a) r q
 
 pub going-next : (su : Setup) (st₀ le₀ addrs st le : List ℕ) (gone i : ℕ) → Going su st₀ le₀ addrs st le gone i → i < length addrs
     → (r : Deleted) (o : ℕ) (st′ le′ : List ℕ)
-    → Does su st le (λ ps. deleteIn ps (getD addrs i 0)) (deletedPaper r) st′ le′ → o ≡ oneIfDone r → o ≤ 1 → Going su st₀ le₀ addrs st′ le′ (gone + o) (i + 1)
+    → Does su st le (λ ps. deleteIn ps (getD addrs i 0)) (deletedPaper r) st′ le′ → o ≡ oneIfDone r → o ≤ 1
+    → Going su st₀ le₀ addrs st′ le′ (gone + o) (i + 1)
 unfolding withoutAll countAll
 going-next su st₀ le₀ addrs st le gone i g l r o st′ le′ d e f =
     let x : drop i addrs ≡ getD addrs i 0 ∷ drop (i + 1) addrs = rw (add-one, drop-cons addrs i 0) in
     let n : o ≡ one (view su st le) (getD addrs i 0) = e ∙ count-is (view su st le) (getD addrs i 0) r (d .answer) in
     let c = rw x at (g .counts) in
     let v : view su st′ le′ ≡ without (view su st le) (getD addrs i 0) = d .lists .seen in
-    let w : countAll (drop (i + 1) addrs) (view su st′ le′) ≡ countAll (drop (i + 1) addrs) (without (view su st le) (getD addrs i 0)) = ap (countAll (drop (i + 1) addrs)) v in
+    let w : countAll (drop (i + 1) addrs) (view su st′ le′) ≡ countAll (drop (i + 1) addrs)
+    (without (view su st le) (getD addrs i 0)) = ap (countAll (drop (i + 1) addrs)) v in
     record {
       at-most = omega arith;
       few = omega (arith, g .few);

@@ -64,7 +64,9 @@ first-by (refused p) own (A.At n) q h = absurd (h p refl (sym (ap (λ (x : Paper
 first-by (done vs ps) own (A.Refused x) q h = absurd (not-done x vs q)
 first-by (done vs ps) own (A.At n) q h = refl
 
-pub answers-first : (spill : Bool) (ps : List Pool) (d : List ℕ) (own e : ScheduleRefusal) (a : Added) (r : InsertAnswer) → r ≡ Refused e → e ≡ firstRefusal a own
+pub answers-first :
+    (spill : Bool) (ps : List Pool) (d : List ℕ) (own e : ScheduleRefusal) (a : Added) (r : InsertAnswer) → r ≡ Refused e
+    → e ≡ firstRefusal a own
     → addedPaper a ≡ says (addIn spill ps d) → insertedPaper r ≡ firstPaper (addIn spill ps d) own
 unfolding insertedPaper
 answers-first spill ps d own e a r p q s = rw (p, q) (first-by (addIn spill ps d) own a s (add-numbered spill ps d))
@@ -89,7 +91,9 @@ module _ (su : Setup) (t : UnixTime) (tc : List ℕ) (s : State) (h : Header) wh
 
 -- stored and entered
 module _ (su : Setup) (r : Record) (st le ro : List ℕ) (t : UnixTime) (tc : List ℕ) (id : ℕ) (st′ le′ : List ℕ) where
-  module _ (l : Leaves (su .store) st le (after (addIn (su .store .spill) (view (su .store) st le) tc) (view (su .store) st le) (λ ps. ps)) st′ le′) where
+  module _
+      (l : Leaves (su .store) st le
+      (after (addIn (su .store .spill) (view (su .store) st le) tc) (view (su .store) st le) (λ ps. ps)) st′ le′) where
     pub enter-refused : (x : StoreRefusal) → storePaper x ≡ says (addIn (su .store .spill) (view (su .store) st le) tc)
         → Does su r st le ro (λ s. entered su t id s (addIn (su .store .spill) (s .pools) tc)) (paper (Store x)) r st′ le′ ro
     unfolding entered stateOf says after paper

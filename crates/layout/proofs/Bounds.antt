@@ -46,7 +46,8 @@ unfolding setupOk lensOk lastSize
 bounds {su} {st} {le} ok =
     let s = all-each _ (ok .setup) in
     let b = buffers-fit su _ _ (ok .buffers) in
-    let pool : (k : ℕ) → k < su .pools → (lastSize su k < sizeAt su k) × (sizeAt su k ≤ maxSlotSize) × (1 ≤ slotsAt su k) × (slotsAt su k ≤ maxSlots) =
+    let pool : (k : ℕ) → k < su .pools
+    → (lastSize su k < sizeAt su k) × (sizeAt su k ≤ maxSlotSize) × (1 ≤ slotsAt su k) × (slotsAt su k ≤ maxSlots) =
     λ k l. pool-sound _ _ _ (all-at (poolOkAt su) (su .pools) (s .1 .1 .0) k l) in
     record {
       few-pools = leb-true _ _ (s .1 .0);
@@ -54,7 +55,10 @@ bounds {su} {st} {le} ok =
       slots = λ k l. let h = pool k l in (h .2, h .3);
       bytes-fit = b .0;
       rows-fit = b .1;
-      rows = λ k i l m. or-cases _ _ (all-at (rowOk le (rowsBefore su k) (sizeAt su k)) (slotsAt su k) (all-at (poolLensOk su le) (su .pools) (ok .lengths) k l) i m);
+      rows =
+          λ k i l m. or-cases _ _
+          (all-at (rowOk le (rowsBefore su k) (sizeAt su k)) (slotsAt su k)
+          (all-at (poolLensOk su le) (su .pools) (ok .lengths) k l) i m);
     }
 
 -- what 1 and 2 say of the lengths

@@ -121,7 +121,9 @@ module _ (su : Setup) (st le : List ℕ) (a : ℕ) where
   unfolding after part
   lends-none p q = record { bytes = rw q; start = rw q; inside = omega arith }
 
-  pub lends-refused : Sound su st le → (r : Whereabouts) (e : StoreRefusal) → Finds su st le a r → r ≡ Wh.Refused e → Lends su st le a (record { from = 0; len = 0 })
+  pub lends-refused :
+      Sound su st le → (r : Whereabouts) (e : StoreRefusal) → Finds su st le a r → r ≡ Wh.Refused e
+      → Lends su st le a (record { from = 0; len = 0 })
   unfolding foundAs
   lends-refused s r e f q =
       let g = subst (λ (x : Whereabouts). Finds su st le a x) q f in
@@ -144,31 +146,47 @@ clash c e q = cc
 
 module _ (su : Setup) (st le : List ℕ) (a k s : ℕ) (p : k ≡ poolOf a) (q : s ≡ slotOf a) where
   invalid-cases : (e : StoreRefusal) → validated su k s ≡ Sp.Refused e
-      → ((find (view su st le) a ≡ noPool) × (paper e ≡ no 16 (poolOf a ∷ []))) ⊎ ((find (view su st le) a ≡ noSlot) × (paper e ≡ no 17 (slotOf a ∷ [])))
+      → ((find (view su st le) a ≡ noPool) × (paper e ≡ no 16 (poolOf a ∷ []))) ⊎
+      ((find (view su st le) a ≡ noSlot) × (paper e ≡ no 17 (slotOf a ∷ [])))
   unfolding paper spot-paper
   invalid-cases e v = go (ltb (poolOf a) (su .pools)) refl
     where
       in-pool : (b : Bool) → ltb (slotOf a) (slotsAt su (poolOf a)) ≡ b → poolOf a < su .pools
-          → ((find (view su st le) a ≡ noPool) × (paper e ≡ no 16 (poolOf a ∷ []))) ⊎ ((find (view su st le) a ≡ noSlot) × (paper e ≡ no 17 (slotOf a ∷ [])))
-      in-pool true t l = let z : _≡_ {A = ℕ} 0 1 = clash _ _ (valid-yes su _ _ l (ltb-true _ _ t) ∙ ap₂ (validated su) (sym p) (sym q) ∙ v) in absurd (omega arith)
-      in-pool false t l = inr (find-no-slot su st le (poolOf a) (slotOf a) l (ltb-false _ _ t), ap spot-paper (sym (valid-slot su _ _ l (ltb-false _ _ t) ∙ ap₂ (validated su) (sym p) (sym q) ∙ v)))
+          → ((find (view su st le) a ≡ noPool) × (paper e ≡ no 16 (poolOf a ∷ []))) ⊎
+          ((find (view su st le) a ≡ noSlot) × (paper e ≡ no 17 (slotOf a ∷ [])))
+      in-pool true t l =
+          let z : _≡_ {A = ℕ} 0 1 = clash _ _ (valid-yes su _ _ l (ltb-true _ _ t) ∙ ap₂ (validated su) (sym p) (sym q) ∙ v) in
+          absurd (omega arith)
+      in-pool false t l =
+          inr (
+            find-no-slot su st le (poolOf a) (slotOf a) l (ltb-false _ _ t),
+            ap spot-paper (sym (valid-slot su _ _ l (ltb-false _ _ t) ∙ ap₂ (validated su) (sym p) (sym q) ∙ v)),
+          )
 
       go : (b : Bool) → ltb (poolOf a) (su .pools) ≡ b
-          → ((find (view su st le) a ≡ noPool) × (paper e ≡ no 16 (poolOf a ∷ []))) ⊎ ((find (view su st le) a ≡ noSlot) × (paper e ≡ no 17 (slotOf a ∷ [])))
+          → ((find (view su st le) a ≡ noPool) × (paper e ≡ no 16 (poolOf a ∷ []))) ⊎
+          ((find (view su st le) a ≡ noSlot) × (paper e ≡ no 17 (slotOf a ∷ [])))
       go true t = in-pool (ltb (slotOf a) (slotsAt su (poolOf a))) refl (ltb-true _ _ t)
-      go false t = inl (find-no-pool su st le (poolOf a) (slotOf a) (ltb-false _ _ t), ap spot-paper (sym (valid-pool su _ (slotOf a) (ltb-false _ _ t) ∙ ap₂ (validated su) (sym p) (sym q) ∙ v)))
+      go false t =
+          inl (
+            find-no-pool su st le (poolOf a) (slotOf a) (ltb-false _ _ t),
+            ap spot-paper (sym (valid-pool su _ (slotOf a) (ltb-false _ _ t) ∙ ap₂ (validated su) (sym p) (sym q) ∙ v)),
+          )
 
   here : (c : Cell) → validated su k s ≡ Sp.At c → (poolOf a < su .pools) × (slotOf a < slotsAt su (poolOf a)) × (c ≡ cellOf su (poolOf a) (slotOf a))
   here c v = valid-at su (poolOf a) (slotOf a) c (ap₂ (validated su) (sym p) (sym q) ∙ v)
 
   here-vacant : (c : Cell) → validated su k s ≡ Sp.At c → getD le (c .row) 0 ≡ storeFree → find (view su st le) a ≡ vacant
-  here-vacant c v e = let i = here c v in find-vacant su st le (poolOf a) (slotOf a) (i .0) (i .1) (ap (λ (x : Cell). getD le (x .row) 0) (sym (i .2)) ∙ e)
+  here-vacant c v e =
+      let i = here c v in
+      find-vacant su st le (poolOf a) (slotOf a) (i .0) (i .1) (ap (λ (x : Cell). getD le (x .row) 0) (sym (i .2)) ∙ e)
 
   here-held : (c : Cell) → validated su k s ≡ Sp.At c → (getD le (c .row) 0 ≡ storeFree → ⊥)
       → find (view su st le) a ≡ held (getD le (c .row) 0) (bytesAt su st (poolOf a) (slotOf a))
   here-held c v e =
       let i = here c v in
-      find-held su st le (poolOf a) (slotOf a) (i .0) (i .1) (λ g. e (ap (λ (x : Cell). getD le (x .row) 0) (i .2) ∙ g)) ∙ ap (λ (x : Cell). held (getD le (x .row) 0) (bytesAt su st (poolOf a) (slotOf a))) (sym (i .2))
+      find-held su st le (poolOf a) (slotOf a) (i .0) (i .1) (λ g. e (ap (λ (x : Cell). getD le (x .row) 0) (i .2) ∙ g))
+      ∙ ap (λ (x : Cell). held (getD le (x .row) 0) (bytesAt su st (poolOf a) (slotOf a))) (sym (i .2))
 
   pub has-refused : (e : StoreRefusal) → validated su k s ≡ Sp.Refused e → presencePaper (Pr.Refused e) ≡ says (hasIn (view su st le) a)
   unfolding hasIn ifNamed says presencePaper

@@ -36,7 +36,9 @@ module _ (su : Setup) (room : ℕ) (lens : List ℕ) where
         few-slots = h .slots k l .1;
         is = refl;
         row-fits = let a = rows-within su k (su .pools) l in let b = h .rows-fit in omega arith;
-        bytes-fit = let a = bytes-within su k (su .pools) l in let b = h .bytes-fit in let d = mul-le-mul-right {m = suc s} {n = slotsAt su k} (sizeAt su k) m in omega arith;
+        bytes-fit =
+            let a = bytes-within su k (su .pools) l in
+            let b = h .bytes-fit in let d = mul-le-mul-right {m = suc s} {n = slotsAt su k} (sizeAt su k) m in omega arith;
         small = h .sizes k l .1;
         len-ok = h .rows k s l m;
       }

@@ -5,8 +5,8 @@ use Rattle.measure.specs.Marks.{Marked, added, marking, standing}
 use Rattle.rules.proofs.All.{all-each}
 use Rattle.rules.specs.Tests.{allOf, unless}
 use Rattle.rules.proofs.Cases.{eq-or-ne}
-use borrow.Author.Tests.{eqb-false, eqb-true, le-ltb, lt-ltb, ltb-false, ltb-true}
-use lib.Dec.{eqb, ltb}
+use borrow.Author.Tests.{le-ltb, lt-ltb, ltb-false, ltb-true}
+use lib.Dec.{ltb}
 use lib.ListN.{getD, length, length-set, set}
 use lib.Seq.{getD-set-other, getD-set-same}
 use mathlib.Core.Bool.{Bool, false, true}

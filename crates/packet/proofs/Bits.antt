@@ -24,4 +24,7 @@ bits-are x = go (eqb (x / 2048) 3) refl
         let f : x / 2048 % 2 ≡ 1 = omega arith in
         sym (each-all _ (eq-eqb _ _ v, (eq-eqb _ _ t, (eq-eqb _ _ f, tt))))
     go false e =
-        sym (fails _ (λ t. let h = all-each _ t in eqb-false (x / 2048) 3 e (three (eqb-true _ _ (h .0)) (eqb-true _ _ (h .1 .0)) (eqb-true _ _ (h .1 .1 .0)))))
+        sym
+        (fails _
+        (λ t. let h = all-each _ t in eqb-false (x / 2048) 3 e
+        (three (eqb-true _ _ (h .0)) (eqb-true _ _ (h .1 .0)) (eqb-true _ _ (h .1 .1 .0)))))

@@ -1,8 +1,7 @@
 -- What each change comes to, by the tests that it made; and that a refusal keeps the record.
 -- Assumes nothing.
-use Prim.Native.Nat.{ℕ}
 use mathlib.Core.Bool.{Bool, false, true}
-use mathlib.Core.Path.{_≡_, _∙_, ap, refl}
+use mathlib.Core.Path.{_≡_, _∙_, ap}
 use Rattle.rules.proofs.Order.{refusal-keeps}
 use Rattle.rules.specs.Papers.{Outcome, Paper, after, says}
 use Rattle.rules.specs.Tests.{unless}

@@ -1,10 +1,9 @@
 -- Every refusal of the schedule has a number, and no refusal has another's number and values.
 -- Assumes nothing.
-use Prim.Native.Nat.{ℕ}
 use lib.Dec.{eqb}
 use borrow.Author.Tests.{eqb-false}
 use mathlib.Core.Bool.{false}
-use mathlib.Core.Path.{_≡_, ap, refl}
+use mathlib.Core.Path.{_≡_, refl}
 use Rattle.lookup.proofs.Numbers.{numbered as store-numbered}
 use Rattle.record.specs.Refusals.{paper}
 use Rattle.record.specs.declared.ScheduleRefusal.{ScheduleRefusal}

@@ -1,5 +1,5 @@
 -- Document 01's number and values for each refusal of the schedule: the store's are inside.
-use Prim.Native.Nat.{ℕ, _+_, _-_}
+use Prim.Native.Nat.{ℕ, _-_}
 use lib.IntN.{ℤ, negsuc, pos}
 use mathlib.Core.List.{List, [], _∷_}
 use Rattle.rules.specs.Papers.{Paper, no}

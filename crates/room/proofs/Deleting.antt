@@ -85,7 +85,8 @@ module _ (ns ks : List ℕ) where
           (unless b (done (0 ∷ []) s)
           (found (getD (s .entries) (victim id (s .entries)) none .addr) (withEntries (without (victim id (s .entries)) 1 (s .entries)) s)))
           (unless b (done (0 ∷ []) (grown ks s))
-          (found (getD (s .entries) (victim id (s .entries)) none .addr) (withEntries (without (victim id (s .entries)) 1 (s .entries)) (grown ks s))))
+          (found (getD (s .entries) (victim id (s .entries)) none .addr)
+          (withEntries (without (victim id (s .entries)) 1 (s .entries)) (grown ks s))))
       go true e =
           h _ (withEntries (without (victim id (s .entries)) 1 (s .entries)) s)
           (slot-at ns (s .entries) (victim id (s .entries)) none (ltb-true _ _ e) (f .named))

@@ -52,6 +52,7 @@ room-never-changes-an-answer larger su lu clock margin qs ok r off named =
     let given = answersOf su clock margin qs in
     subst (λ (ps : List Pool). run lu (strike given qs) (withPools ps (freshState su clock margin)) .answers ≡ strike given given)
     (sym (fresh-grow su lu r))
-    (runs su lu (r .more-entries) (off .first) (slotsOf su lu) (moreOf su lu) (few-slots su lu ok) (few-pools su lu ok) qs (freshState su clock margin)
+    (runs su lu (r .more-entries) (off .first) (slotsOf su lu) (moreOf su lu) (few-slots su lu ok) (few-pools su lu ok) qs
+    (freshState su clock margin)
     (record { shaped = fresh-shape su lu; named = tt })
     (slotted-every su lu qs named))

@@ -38,7 +38,9 @@ module _ (p : ℕ → Bool) where
   first-passes zero i l = absurd (omega arith)
   first-passes (suc n) i l = pick (p i) refl l (first-passes n (suc i))
     where
-      pick : (b : Bool) → p i ≡ b → cond b i (firstFrom p (suc i) n) < i + suc n → (firstFrom p (suc i) n < suc i + n → p (firstFrom p (suc i) n) ≡ true) → p (cond b i (firstFrom p (suc i) n)) ≡ true
+      pick :
+          (b : Bool) → p i ≡ b → cond b i (firstFrom p (suc i) n) < i + suc n
+          → (firstFrom p (suc i) n < suc i + n → p (firstFrom p (suc i) n) ≡ true) → p (cond b i (firstFrom p (suc i) n)) ≡ true
       pick true e q ih = e
       pick false e q ih = ih (omega arith)
 

@@ -2,7 +2,7 @@
 -- Assumes nothing.
 use Prim.Native.Nat.{ℕ}
 use mathlib.Core.List.{List, [], _∷_}
-use mathlib.Core.Path.{_≡_, _∙_, ap, sym}
+use mathlib.Core.Path.{_≡_, ap, sym}
 use Rattle.record.specs.declared.Record.{Record}
 use Rattle.rules.specs.Papers.{no, says}
 use Rattle.rows.proofs.Rows.{length-unpack}

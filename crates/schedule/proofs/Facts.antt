@@ -62,6 +62,8 @@ long-enough su room lens rows p q =
     record { setup = p; lens-fit = buffers-fit (su .store) room lens (b .0) .1; rows-fit = leb-true _ _ (b .1 .0) }
 
 -- the store's part of 1 and 2
-pub store-sized : (su : Setup) (st le : List ℕ) (rows : ℕ) → setupOk su ≡ true → buffersOk su (length st) (length le) rows ≡ true → Sized (su .store) st le
+pub store-sized :
+    (su : Setup) (st le : List ℕ) (rows : ℕ) → setupOk su ≡ true → buffersOk su (length st) (length le) rows ≡ true
+    → Sized (su .store) st le
 unfolding setupOk buffersOk
 store-sized su st le rows p q = record { setup = all-each _ p .0; buffers = all-each _ q .0 }

@@ -10,7 +10,7 @@ use Rattle.rules.specs.Papers.{Outcome, Paper, after, done, judgedBy, no, refus
 use Rattle.layout.proofs.Bounds.{bounds}
 use Rattle.store.proofs.Laid.{leaves-same, lens-laid, same-lens, same-store, store-laid}
 use Rattle.layout.specs.Layout.{allRows}
-use Rattle.slots.specs.View.{Leaves, lensWith, storeWith, view}
+use Rattle.slots.specs.View.{Leaves, lensWith, storeWith}
 use Rattle.rows.proofs.Rows.{length-unpack}
 use Rattle.rows.specs.Entries.{relaid}
 use Rattle.schedule.specs.Judge.{Judges, Sound, judging}
@@ -22,7 +22,7 @@ use Rattle.record.specs.declared.ScheduleRefusal.{ScheduleRefusal}
 use Rattle.schedule.specs.declared.Verdict.{Verdict}
 use Rattle.schedule.specs.declared.Verdict.the-variants as Ve
 use Rattle.schedule.proofs.Judging.{judging-refused}
-use Rattle.schedule.proofs.Facts.{Facts, facts}
+use Rattle.schedule.proofs.Facts.{facts}
 
 -- the record of what was judged is the record
 pub record-same : (su : Setup) (r : Record) (st le ro : List ℕ) → recordOf (stateOf su r st le ro) ≡ r

@@ -1,10 +1,10 @@
 -- What a fresh start comes to, by what its tests said.
 -- Assumes nothing.
-use Prim.Native.Nat.{_*_, _+_, _≤_, ℕ}
-use lib.ListN.{length, take}
-use mathlib.Core.Bool.{_&&_, false, true}
+use Prim.Native.Nat.{ℕ}
+use lib.ListN.{length}
+use mathlib.Core.Bool.{false, true}
 use mathlib.Core.List.{List, []}
-use mathlib.Core.Path.{_≡_, _∙_, ap, refl, sym}
+use mathlib.Core.Path.{_≡_, _∙_, ap, refl}
 use native.Mathlib.Nat.{zero-add}
 use native.Mathlib.Omega.{arith}
 use Rattle.record.specs.Refusals.{donePaper, paper}
@@ -12,18 +12,16 @@ use Rattle.record.specs.declared.Done.the-variants as Dn
 use Rattle.record.specs.declared.Record.{Record}
 use Rattle.record.specs.declared.ScheduleRefusal.{ScheduleRefusal}
 use Rattle.record.specs.declared.ScheduleRefusal.the-variants.{BadTime, Store}
-use Rattle.rules.specs.Papers.{Outcome, after, done, says}
+use Rattle.rules.specs.Papers.{after, says}
 use Rattle.rules.specs.Tests.{unless}
 use Rattle.store.proofs.Laid.{lens-laid, store-laid}
 use Rattle.store.specs.Calls.{freshPools}
-use Rattle.layout.specs.Judge.{Sized}
-use Rattle.layout.specs.Layout.{allRows}
 use Rattle.lookup.specs.Refusals.{paper as storePaper}
 use Rattle.slots.specs.View.{Leaves}
 use Rattle.slots.specs.declared.StoreRefusal.the-variants.{BadBuffers, BadSetup}
 use Rattle.rows.proofs.Rows.{past-end}
 use Rattle.table_edit.specs.Edits.{afterRemove, without}
-use Rattle.rows.specs.Entries.{Entry, relaid, unpack, width}
+use Rattle.rows.specs.Entries.{relaid, unpack}
 use Rattle.time.specs.Time.{inRange, marginInRange}
 use Rattle.time.specs.declared.Margin.{Margin}
 use Rattle.time.specs.declared.UnixTime.{UnixTime}

@@ -1,6 +1,6 @@
 -- What the calls promise: public calls by equations for the record and the lent lists, judged calls by what these stand for.
-use Prim.Native.Nat.{_*_, ℕ}
-use lib.ListN.{drop, length}
+use Prim.Native.Nat.{ℕ}
+use lib.ListN.{length}
 use mathlib.Core.List.{List}
 use mathlib.Core.Path.{_≡_}
 use Rattle.record.specs.declared.Record.{Record}
@@ -19,7 +19,8 @@ pub record Writes (su : Setup) (r : Record) (st le ro : List ℕ) (o : Outcome S
   pub rows : ro′ ≡ after o ro (λ s. relaid ro (r .count) (s .entries))
 
 -- What a judged call promises its caller, who has judged: the same outcome, and what the lists stand for.
-pub record Does (su : Setup) (r : Record) (st le ro : List ℕ) (call : State → Outcome State) (p : Paper) (r′ : Record) (st′ le′ ro′ : List ℕ) : Type 0 where
+pub record Does (su : Setup) (r : Record) (st le ro : List ℕ) (call : State → Outcome State) (p : Paper) (r′ : Record)
+    (st′ le′ ro′ : List ℕ) : Type 0 where
   pub answer : p ≡ says (call (stateOf su r st le ro))
   pub next : r′ ≡ after (call (stateOf su r st le ro)) r recordOf
   pub lists : Leaves (su .store) st le (after (call (stateOf su r st le ro)) (stateOf su r st le ro) (λ s. s) .pools) st′ le′

@@ -1,7 +1,7 @@
 -- The fresh start: it knows 1, 2 and 4 only. It zeroes the store and all entry rows, marks every slot free, and is enabled with the
 -- given clock and margin.
 use Prim.Native.Nat.{ℕ}
-use mathlib.Core.Bool.{Bool, _&&_, true}
+use mathlib.Core.Bool.{_&&_, true}
 use mathlib.Core.List.{List, []}
 use mathlib.Core.Path.{_≡_}
 use Rattle.record.specs.declared.Record.{Record}

@@ -11,12 +11,10 @@ use Rattle.schedule.specs.declared.Setup.{Setup}
 use Rattle.scheduler.specs.Steps.{Answer, Request, run, step, tick, ticked}
 use Rattle.slots.specs.Pools.{Pool}
 use Rattle.rows.specs.Entries.{Entry}
-use Rattle.table.specs.Before.{below}
 use Rattle.tick.proofs.Lacking.{hands-out, lack-fits, lack-none}
 use Rattle.tick.specs.Inside.{lack}
 use Rattle.tick.specs.Tick.{handedOut, tickIn, usable}
 use Rattle.time.specs.Time.{instant}
-use Rattle.time.specs.declared.UnixTime.{UnixTime}
 use Rattle.turns.specs.Released.{firstTotal}
 use Rattle.turn.specs.Turns.{Handout, always, handout, leave}
 use Rattle.turns_laws.proofs.Drains.{one-hands, short-handout, up}

@@ -1,4 +1,5 @@
--- The scheduler's laws: Answering (demand 1 over steps), RefusalKeeps, OneToOne, OneOutcome, StaysSound, Stepping, and Releasing and Draining for the tick. The other files help them.
+-- The scheduler's laws: Answering (demand 1 over steps), RefusalKeeps, OneToOne, OneOutcome, StaysSound, Stepping, and Releasing
+-- and Draining for the tick. The other files help them.
 pub mod Numbers
 pub mod Answering
 pub mod RefusalKeeps

@@ -1,13 +1,13 @@
 -- The laws of the scheduler for the tick: it keeps a fitting state so, does what the step of its request says, keeps everything where
 -- it refuses, and has one outcome only.
-use Prim.Native.Nat.{_-_, _≤_, ℕ}
+use Prim.Native.Nat.{ℕ}
 use Rattle.record.specs.declared.Record.{Record}
 use Rattle.rules.proofs.Order.{into-after, into-says, refusal-keeps}
-use Rattle.rules.specs.Papers.{Outcome, Paper, after, done, into, refused, says}
+use Rattle.rules.specs.Papers.{Outcome, Paper, into, refused, says}
 use Rattle.rules.specs.Tests.{unless}
 use Rattle.schedule.proofs.Promises.{judging-fine}
 use Rattle.schedule.specs.Judge.{Sound, judging}
-use Rattle.schedule.specs.State.{State, stateOf, withEntries, withPools}
+use Rattle.schedule.specs.State.{State, stateOf, withPools}
 use Rattle.schedule.specs.declared.Setup.{Setup}
 use Rattle.scheduler.proofs.Calls.{with-entries, with-pools}
 use Rattle.scheduler.proofs.OneOutcome.{one-outcome}
@@ -28,10 +28,10 @@ use Rattle.store_laws.proofs.Wiped.{deleted-is}
 use Rattle.handing.specs.Handing.{afterAll}
 use Rattle.turn.specs.Turns.{Handout, always, handout, leave}
 use Rattle.turns_laws.proofs.Split.{splits}
-use lib.ListN.{drop, length, length-drop, take}
+use lib.ListN.{length, length-drop, take}
 use mathlib.Core.Bool.{Bool, false, true}
 use mathlib.Core.List.{List, [], _∷_}
-use mathlib.Core.Path.{_∙_, _≡_, ap, refl, sym}
+use mathlib.Core.Path.{_∙_, _≡_, ap, sym}
 use native.Mathlib.Omega.{arith}
 
 -- ---- it keeps a fitting state so
@@ -104,5 +104,6 @@ module _ (su : Setup) (r : Record) (st le ro lo : List ℕ) (limit : ℕ) (del :
       → Ticks su r st le ro lo (judging su r st le ro (tickIn limit del lo)) q r″ st″ le″ ro″ lo″
       → (p ≡ q) × Same r″ r′ st″ st′ le″ le′ ro″ ro′ × (lo′ ≡ lo″)
   one-tick q r″ st″ le″ ro″ lo″ v =
-      let s = one-outcome su r st le ro p q r′ r″ st′ le′ ro′ st″ le″ ro″ (left (judging su r st le ro (tickIn limit del lo))) (w .tables) (v .tables) in
+      let s = one-outcome su r st le ro p q r′ r″ st′ le′ ro′ st″ le″ ro″ (left (judging su r st le ro (tickIn limit del lo)))
+      (w .tables) (v .tables) in
       (s .0, s .1, w .log ∙ sym (v .log))

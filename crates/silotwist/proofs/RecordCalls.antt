@@ -10,16 +10,14 @@ use Rattle.rules.specs.Tests.{unless}
 use Rattle.time.specs.Time.{inRange}
 use Rattle.time.specs.declared.UnixTime.{UnixTime}
 use Rattle.silotwist.proofs.Answering.{answers, answers-short, roomy, short}
-use Rattle.silotwist.specs.Face.{Answers, answering}
 use Rattle.face_reading.specs.Inside.{Stands}
 use Rattle.face_words.specs.Inside.{eight, wordsOf, writtenIf}
 use Rattle.face_reading.specs.Reading.{recordFrom}
 use Rattle.silotwist.specs.RecordFace.{RecordFaces, clockWritten, longEnough, markWritten, recordCall}
 use Rattle.face_words.specs.declared.Words.{Words}
 use borrow.Author.Tests.{le-leb, lt-leb}
-use lib.Dec.{eqb}
 use lib.ListN.{drop, length}
-use mathlib.Core.Bool.{Bool, cond, false, true}
+use mathlib.Core.Bool.{Bool, false, true}
 use mathlib.Core.List.{List, [], _++_}
 use mathlib.Core.Path.{_∙_, _≡_, ap, refl, sym}
 

@@ -6,14 +6,13 @@ use Rattle.record.specs.declared.Record.{Record}
 use Rattle.rules.proofs.All.{and-left}
 use Rattle.rules.specs.Papers.{Outcome, Paper, after, done, judgedBy, no, refused, says}
 use Rattle.rules.specs.Tests.{allOf, unless}
-use Rattle.schedule.specs.Judge.{buffersOk, judging, setupOk, stateOk}
+use Rattle.schedule.specs.Judge.{judging, setupOk, stateOk}
 use Rattle.schedule.specs.Promise.{Writes}
 use Rattle.schedule.specs.State.{State, recordOf}
 use Rattle.schedule.specs.declared.Setup.{Setup}
-use Rattle.layout.specs.Judge.{lensOk, setupOk as storeSetupOk}
+use Rattle.layout.specs.Judge.{setupOk as storeSetupOk}
 use Rattle.slots.specs.View.{lensWith, storeWith}
-use Rattle.rows.specs.Entries.{relaid, unpack}
-use Rattle.rows.specs.Order.{ordered}
+use Rattle.rows.specs.Entries.{relaid}
 use Rattle.silotwist.proofs.Answering.{answers, answers-short, roomy, short}
 use Rattle.face_words.proofs.Written.{set-same}
 use Rattle.silotwist.specs.Face.{Answers}
@@ -29,7 +28,7 @@ use lib.Dec.{leb}
 use lib.ListN.{drop, length, set}
 use native.Mathlib.Omega.{arith}
 use mathlib.Core.Bool.{Bool, _&&_, cond, false, true}
-use mathlib.Core.List.{List, [], _++_, _∷_}
+use mathlib.Core.List.{List, [], _++_}
 use mathlib.Core.Path.{_∙_, _≡_, ap, ap₂, refl, sym}
 
 store-bad : (su : Setup) → storeSetupOk (su .store) ≡ false → setupOk su ≡ false

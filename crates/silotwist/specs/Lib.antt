@@ -1,4 +1,5 @@
--- The C face (include/silotwist.h): what a reader must believe. Read it in this order, beside the header, after face_reading's Reading and face_words' Padding.
+-- The C face (include/silotwist.h): what a reader must believe. Read it in this order, beside the header, after face_reading's
+-- Reading and face_words' Padding.
 pub mod Face
 pub mod StoreFace
 pub mod RecordFace

@@ -53,12 +53,15 @@ unfolding each
 lowest-is f zero i j t e l h g = absurd (not-suc-le-zero l)
 lowest-is f (suc n) i zero t e l h g = let q : t ≡ i = omega arith in lowest-here (f i) (each f (suc i) n) (rw q at h)
 lowest-is f (suc n) i (suc j) t e l h g =
-    lowest-past (f i) (each f (suc i) n) (g i (omega arith) (omega arith)) ∙ ap next (lowest-is f n (suc i) j t (omega arith) (omega arith) h (λ s a b. g s (omega arith) b))
+    lowest-past (f i) (each f (suc i) n) (g i (omega arith) (omega arith))
+    ∙ ap next (lowest-is f n (suc i) j t (omega arith) (omega arith) h (λ s a b. g s (omega arith) b))
 
 lowest-none : (f : ℕ → Slot) (n i : ℕ) → ((s : ℕ) → i ≤ s → s < i + n → IsTaken (f s)) → lowest (each f i n) ≡ none
 unfolding each
 lowest-none f zero i g = refl
-lowest-none f (suc n) i g = lowest-past (f i) (each f (suc i) n) (g i (omega arith) (omega arith)) ∙ ap next (lowest-none f n (suc i) (λ s a b. g s (omega arith) (omega arith)))
+lowest-none f (suc n) i g =
+    lowest-past (f i) (each f (suc i) n) (g i (omega arith) (omega arith))
+    ∙ ap next (lowest-none f n (suc i) (λ s a b. g s (omega arith) (omega arith)))
 
 -- the choice among subpools
 module _ (f : ℕ → Pool) (len : ℕ) where
@@ -82,7 +85,8 @@ module _ (f : ℕ → Pool) (len : ℕ) where
   choose-into sp zero k j t i e l h o g = absurd (not-suc-le-zero l)
   choose-into sp (suc n) k zero t i e l h o g = let q : t ≡ k = omega arith in rw (rw q at h, rw q at o)
   choose-into sp (suc n) k (suc j) t i e l h o g =
-      pass sp k (choose sp (each f (suc k) n) len) j i (g k (omega arith) (omega arith)) (choose-into sp n (suc k) j t i (omega arith) (omega arith) h o (λ s a b. g s (omega arith) b))
+      pass sp k (choose sp (each f (suc k) n) len) j i (g k (omega arith) (omega arith))
+      (choose-into sp n (suc k) j t i (omega arith) (omega arith) h o (λ s a b. g s (omega arith) b))
 
   choose-large : (sp : Bool) (n k : ℕ) → ((s : ℕ) → k ≤ s → s < k + n → leb len (f s .size) ≡ false) → choose sp (each f k n) len ≡ tooLarge
   unfolding each choose
@@ -117,7 +121,9 @@ module _ (f : ℕ → Pool) (len : ℕ) where
   choose-spilt (suc n) k zero t m e l q g h = let w : m ≡ n = omega arith in rw w (choose-all n k (λ s a b. h s (omega arith) b))
   choose-spilt (suc n) k (suc j) t zero e l q g h = absurd (omega arith)
   choose-spilt (suc n) k (suc j) t (suc m) e l q g h =
-      past k n m (g k (omega arith) (omega arith)) (choose-spilt n (suc k) j t m (omega arith) (omega arith) (omega arith) (λ s a b. g s (omega arith) b) (λ s a b. h s a (omega arith)))
+      past k n m (g k (omega arith) (omega arith))
+      (choose-spilt n (suc k) j t m (omega arith) (omega arith) (omega arith) (λ s a b. g s (omega arith) b)
+      (λ s a b. h s a (omega arith)))
 
 module _ (su : Setup) (st le : List ℕ) where
   lowest-free : (k : ℕ) → hasFree su le k ≡ true → lowest (poolIn su st le k .slots) ≡ some (freeSlot su le k)
@@ -126,7 +132,8 @@ module _ (su : Setup) (st le : List ℕ) where
       let p = freeRow le (rowsBefore su k) in
       let l = ltb-true (firstFrom p 0 (slotsAt su k)) (slotsAt su k) h in
       lowest-is (slotIn su st le k) (slotsAt su k) 0 (firstFrom p 0 (slotsAt su k)) (firstFrom p 0 (slotsAt su k)) (omega arith) l
-      (free-from (getD le (rowsBefore su k + firstFrom p 0 (slotsAt su k)) 0) (bytesAt su st k (firstFrom p 0 (slotsAt su k))) (first-passes p (slotsAt su k) 0 (omega arith)))
+      (free-from (getD le (rowsBefore su k + firstFrom p 0 (slotsAt su k)) 0) (bytesAt su st k (firstFrom p 0 (slotsAt su k)))
+      (first-passes p (slotsAt su k) 0 (omega arith)))
       (λ s a b. taken-from (getD le (rowsBefore su k + s) 0) (bytesAt su st k s) (first-before p (slotsAt su k) 0 s a b))
 
   lowest-full : (k : ℕ) → hasFree su le k ≡ false → lowest (poolIn su st le k .slots) ≡ none
@@ -134,12 +141,17 @@ module _ (su : Setup) (st le : List ℕ) where
   lowest-full k h =
       let p = freeRow le (rowsBefore su k) in
       let l = ltb-false (firstFrom p 0 (slotsAt su k)) (slotsAt su k) h in
-      lowest-none (slotIn su st le k) (slotsAt su k) 0 (λ s a b. taken-from (getD le (rowsBefore su k + s) 0) (bytesAt su st k s) (first-before p (slotsAt su k) 0 s a (omega arith)))
+      lowest-none (slotIn su st le k) (slotsAt su k) 0
+      (λ s a b. taken-from (getD le (rowsBefore su k + s) 0) (bytesAt su st k s)
+      (first-before p (slotsAt su k) 0 s a (omega arith)))
 
   pub chosen-large : (len k : ℕ) → k ≡ firstFrom (fits su len) 0 (su .pools) → su .pools ≤ k
       → Refused (DataTooLarge len) ≡ roomOf su len (choose (su .spill) (view su st le) len)
   unfolding view roomOf
-  chosen-large len k e l = rw (choose-large (poolIn su st le) len (su .spill) (su .pools) 0 (λ s a b. first-before (fits su len) (su .pools) 0 s a (omega arith)))
+  chosen-large len k e l =
+      rw
+      (choose-large (poolIn su st le) len (su .spill) (su .pools) 0
+      (λ s a b. first-before (fits su len) (su .pools) 0 s a (omega arith)))
 
 module _ (su : Setup) (ok : setupOk su ≡ true) (st le : List ℕ) (len k : ℕ) (e : k ≡ firstFrom (fits su len) 0 (su .pools)) (l : k < su .pools) where
   early : (s : ℕ) → s < k → leb len (sizeAt su s) ≡ false
@@ -147,7 +159,8 @@ module _ (su : Setup) (ok : setupOk su ≡ true) (st le : List ℕ) (len k : ℕ
 
   holds : (s : ℕ) → k ≤ s → s < su .pools → leb len (sizeAt su s) ≡ true
   holds s a b =
-      let p : leb len (sizeAt su k) ≡ true = subst (λ (j : ℕ). leb len (sizeAt su j) ≡ true) (sym e) (first-passes (fits su len) (su .pools) 0 (omega arith)) in
+      let p : leb len (sizeAt su k) ≡ true = subst (λ (j : ℕ). leb len (sizeAt su j) ≡ true) (sym e)
+      (first-passes (fits su len) (su .pools) 0 (omega arith)) in
       le-leb _ _ (le-trans (leb-true _ _ p) (setup-rising su ok k s a b))
 
   passed-by : (sp : Bool) (s : ℕ) (b : Bool) → ltb s k ≡ b → (k ≤ s → (sp ≡ true) × (lowest (poolIn su st le s .slots) ≡ none))
@@ -174,13 +187,29 @@ module _ (su : Setup) (ok : setupOk su ≡ true) (st le : List ℕ) (len k : ℕ
       choose-spilt (poolIn su st le) len (su .pools) 0 k k (su .pools - 1) (omega arith) l (omega arith) (λ s u v. early s v)
       (λ s u v. (holds s u (omega arith), lowest-full su st le s (g s u (omega arith))))
   full-at false g =
-      choose-one (poolIn su st le) len (su .pools) 0 k k (omega arith) l (holds k (omega arith) l) (lowest-full su st le k (g k (omega arith) (omega arith))) (λ s u v. early s v) ∙ ap allTaken (omega arith)
+      choose-one (poolIn su st le) len (su .pools) 0 k k (omega arith) l (holds k (omega arith) l)
+      (lowest-full su st le k (g k (omega arith) (omega arith))) (λ s u v. early s v) ∙ ap allTaken (omega arith)
 
   pub chosen-room : (n : ℕ) → n ≡ lastTried su k → roomIn su le k n ≡ roomOf su len (choose (su .spill) (view su st le) len)
   unfolding roomIn roomOf lastTried unless
   chosen-room n q = go (ltb (firstFrom (hasFree su le) k (n - k)) n) refl
     where
       go : (b : Bool) → ltb (firstFrom (hasFree su le) k (n - k)) n ≡ b
-          → unless b (Refused (StoreFull (n - 1))) (At (cellOf su (firstFrom (hasFree su le) k (n - k)) (freeSlot su le (firstFrom (hasFree su le) k (n - k))))) ≡ roomOf su len (choose (su .spill) (view su st le) len)
-      go true m = rw (into-at (su .spill) (firstFrom (hasFree su le) k (n - k)) (first-ge (hasFree su le) (n - k) k) (subst (λ (x : ℕ). firstFrom (hasFree su le) k (n - k) < x) q (ltb-true _ _ m)) (first-passes (hasFree su le) (n - k) k (let z = ltb-true (firstFrom (hasFree su le) k (n - k)) n m in let y = first-ge (hasFree su le) (n - k) k in omega arith)) (λ s u v. first-before (hasFree su le) (n - k) k s u v))
-      go false m = rw (full-at (su .spill) (λ s u v. first-before (hasFree su le) (n - k) k s u (let z = ltb-false (firstFrom (hasFree su le) k (n - k)) n m in omega arith)), ← q)
+          → unless b (Refused (StoreFull (n - 1)))
+          (At (cellOf su (firstFrom (hasFree su le) k (n - k)) (freeSlot su le (firstFrom (hasFree su le) k (n - k)))))
+          ≡ roomOf su len (choose (su .spill) (view su st le) len)
+      go true m =
+          rw
+          (into-at (su .spill) (firstFrom (hasFree su le) k (n - k)) (first-ge (hasFree su le) (n - k) k)
+          (subst (λ (x : ℕ). firstFrom (hasFree su le) k (n - k) < x) q (ltb-true _ _ m))
+          (first-passes (hasFree su le) (n - k) k
+          (let z = ltb-true (firstFrom (hasFree su le) k (n - k)) n m in
+          let y = first-ge (hasFree su le) (n - k) k in omega arith))
+          (λ s u v. first-before (hasFree su le) (n - k) k s u v))
+      go false m =
+          rw (
+            full-at (su .spill)
+                (λ s u v. first-before (hasFree su le) (n - k) k s u
+                (let z = ltb-false (firstFrom (hasFree su le) k (n - k)) n m in omega arith)),
+            ← q,
+          )

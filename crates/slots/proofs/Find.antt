@@ -55,7 +55,9 @@ module _ (su : Setup) (st le : List ℕ) (k i : ℕ) where
 
   pub find-here : k < su .pools → i < slotsAt su k → findAt (view su st le) k i ≡ seen (slotIn su st le k i)
   unfolding view
-  find-here l m = pools-find (poolIn su st le) (su .pools) 0 k i k (omega arith) l ∙ slots-find (slotIn su st le k) (slotsAt su k) 0 i i (omega arith) m
+  find-here l m =
+      pools-find (poolIn su st le) (su .pools) 0 k i k (omega arith) l
+      ∙ slots-find (slotIn su st le k) (slotsAt su k) 0 i i (omega arith) m
 
   pub find-vacant : k < su .pools → i < slotsAt su k → getD le (rowsBefore su k + i) 0 ≡ storeFree → findAt (view su st le) k i ≡ vacant
   unfolding lenAt

@@ -40,7 +40,9 @@ pub part-length : (from size : ℕ) (st : List ℕ) → from + size ≤ length s
 unfolding part
 part-length from size st l = simp (length-take, length-drop) (omega arith)
 
-pub filled : (v from size : ℕ) (st : List ℕ) → from + size ≤ length st → _≡_ {A = List ℕ} (replicate (length (take (from + size - from) (drop from st))) v) (replicate size v)
+pub filled :
+    (v from size : ℕ) (st : List ℕ) → from + size ≤ length st
+    → _≡_ {A = List ℕ} (replicate (length (take (from + size - from) (drop from st))) v) (replicate size v)
 filled v from size st l = ap (λ (n : ℕ). replicate n v) (ap length (part-is from size st) ∙ part-length from size st l)
 
 pub cut-length : (from size : ℕ) (st : List ℕ) → from + size ≤ length st → length (take (from + size - from) (drop from st)) ≡ size
@@ -72,7 +74,9 @@ put-over from size ys st h l =
     let n : length (take size (drop from st)) ≡ size = length-take-le size (drop from st) (simp length-drop (omega arith)) in
     ap (λ (x : List ℕ). take from st ++ x)
     (append-assoc ys (drop (length ys) (take size (drop from st))) (drop size (drop from st))
-    ∙ ap (λ (x : List ℕ). ys ++ x) (sym (drop-append-le (length ys) (take size (drop from st)) (drop size (drop from st)) (omega arith)) ∙ ap (drop (length ys)) (take-append-drop size (drop from st))))
+    ∙ ap (λ (x : List ℕ). ys ++ x)
+    (sym (drop-append-le (length ys) (take size (drop from st)) (drop size (drop from st)) (omega arith))
+    ∙ ap (drop (length ys)) (take-append-drop size (drop from st))))
 
 pub set-get : (l : List ℕ) (i : ℕ) → set l i (getD l i 0) ≡ l
 set-get [] i = refl

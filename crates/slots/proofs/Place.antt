@@ -126,7 +126,8 @@ module _ (su : Setup) (st le : List ℕ) (a k s : ℕ) (p : k ≡ poolOf a) (q :
       → Refused (DataDoesNotExist n) ≡ spotOf su a (find (view su st le) a)
   found-vacant n c e v f =
       let i = named c v in
-      ap (λ (m : ℕ). Refused (DataDoesNotExist m)) (e ∙ ap₂ addressOf p q) ∙ spot-vacant su st le a (i .0) (i .1) (ap (λ (x : Cell). getD le (x .row) 0) (sym (i .2)) ∙ f)
+      ap (λ (m : ℕ). Refused (DataDoesNotExist m)) (e ∙ ap₂ addressOf p q)
+      ∙ spot-vacant su st le a (i .0) (i .1) (ap (λ (x : Cell). getD le (x .row) 0) (sym (i .2)) ∙ f)
 
   pub found-held : (c : Cell) → validated su k s ≡ At c → (getD le (c .row) 0 ≡ storeFree → ⊥) → At c ≡ spotOf su a (find (view su st le) a)
   found-held c v f =

@@ -81,7 +81,9 @@ pick-open sp true p ps n none r e h g = spill-open sp (p ∷ ps) n r g
 pub choose-open : (sp : Bool) (ps : List Pool) (n : ℕ) → Open ps n (choose sp ps n)
 unfolding choose
 choose-open sp [] n = tt
-choose-open sp (p ∷ ps) n = pick-open sp (leb n (p .size)) p ps n (lowest (p .slots)) (shift (choose sp ps n)) refl (lowest-open (p .slots)) (shift-open p ps n (choose sp ps n) (choose-open sp ps n))
+choose-open sp (p ∷ ps) n =
+    pick-open sp (leb n (p .size)) p ps n (lowest (p .slots)) (shift (choose sp ps n)) refl (lowest-open (p .slots))
+    (shift-open p ps n (choose sp ps n) (choose-open sp ps n))
 
 size-each : (f : ℕ → Pool) (n k j t : ℕ) → k + j ≡ t → j < n → sizeIn (each f k n) j ≡ f t .size
 unfolding each sizeIn
@@ -185,6 +187,8 @@ module _ (su : Setup) (st le d : List ℕ) where
       let w = k .inside in
       let size : c .size ≡ sizeAt su (c .pool) = ap (λ (x : Cell). x .size) (k .is) in
       let row : c .row ≡ rowsBefore su (c .pool) + c .slot = ap (λ (x : Cell). x .row) (k .is) in
-      let l = leaves-fill su st le (bounds fine) (c .pool) (c .slot) (w .pool-fits) (w .slot-fits) d (rw row at (k .is-free)) (rw size at (k .holds)) in
+      let l = leaves-fill su st le (bounds fine) (c .pool) (c .slot) (w .pool-fits) (w .slot-fits) d (rw row at (k .is-free))
+      (rw size at (k .holds)) in
       let from : c .from ≡ bytesBefore su (c .pool) + c .slot * sizeAt su (c .pool) = ap (λ (x : Cell). x .from) (k .is) in
-      does-done su st le st′ le′ (λ ps. addIn (su .spill) ps d) (a ∷ []) (editAt (fill d) (view su st le) (c .pool) (c .slot)) (rw (k .chosen, e)) (rw (p, q, from, size, row) l)
+      does-done su st le st′ le′ (λ ps. addIn (su .spill) ps d) (a ∷ []) (editAt (fill d) (view su st le) (c .pool) (c .slot))
+      (rw (k .chosen, e)) (rw (p, q, from, size, row) l)

@@ -71,7 +71,8 @@ module _ (su : Setup) (st le : List ℕ) where
   unfolding view freshPools
   fresh-view =
       each-cong _ _ (su .pools) 0
-      (λ k a (l : k < 0 + su .pools). ap (λ (xs : List Slot). record { size = sizeAt su k; slots = xs }) (each-same _ _ (slotsAt su k) 0 (λ i m. fresh-slot k i (omega arith) (omega arith))))
+      (λ k a (l : k < 0 + su .pools). ap (λ (xs : List Slot). record { size = sizeAt su k; slots = xs })
+      (each-same _ _ (slotsAt su k) 0 (λ i m. fresh-slot k i (omega arith) (omega arith))))
 
 module _ (su : Setup) (st le : List ℕ) (s : Sized su st le) where
   pub fresh-leaves : (st′ le′ : List ℕ) → st′ ≡ put 0 (allBytes su) (replicate (allBytes su) 0) st

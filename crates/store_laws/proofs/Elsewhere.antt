@@ -5,7 +5,7 @@ use Rattle.store.proofs.Chosen.{Open}
 use Rattle.lookup.proofs.Packets.{held-vacant}
 use Rattle.address.specs.Address.{addressOf}
 use Rattle.store.specs.Calls.{place}
-use Rattle.slots.specs.Pools.{Choice, Found, Pool, Slot, allTaken, findAt, findSlot, free, held, into, seen, taken, tooLarge, vacant}
+use Rattle.slots.specs.Pools.{Choice, Pool, Slot, allTaken, findAt, findSlot, free, into, seen, taken, tooLarge, vacant}
 use Rattle.store.specs.Edits.{editAt, editSlot, fill}
 use Rattle.store_laws.specs.Requests.{nthSlot, theSlot}
 use lib.ListN.{getD, length}

@@ -102,7 +102,8 @@ pub view-fits : (su : Setup) (st le : List ℕ) → Sound su st le → Fitting (
 unfolding view lenAt
 view-fits su st le s =
     all-pools-fit (poolIn su st le) (su .pools) 0
-    (λ k l. all-each-fit (slotIn su st le k) (sizeAt su k) (slotsAt su k) 0 (λ i m. fits-from (sizeAt su k) _ (bytesAt su st k i) (bounds s .rows k i (omega arith) (omega arith))))
+    (λ k l. all-each-fit (slotIn su st le k) (sizeAt su k) (slotsAt su k) 0
+    (λ i m. fits-from (sizeAt su k) _ (bytesAt su st k i) (bounds s .rows k i (omega arith) (omega arith))))
 
 -- lists that stand for subpools whose packets fit are sound, where setup and buffers are good
 pub sound-of : (su : Setup) (st le : List ℕ) (ps : List Pool) (st′ le′ : List ℕ) → Sized su st le → Leaves su st le ps st′ le′ → Fitting ps

@@ -82,5 +82,7 @@ one-judged su st le call s p q st₁ le₁ st₂ le₂ w v =
 pub one-judged-fresh : (su : Setup) (st le st₁ le₁ st₂ le₂ : List ℕ) → Sized su st le → Leaves su st le (freshPools su) st₁ le₁
     → Leaves su st le (freshPools su) st₂ le₂ → (st₁ ≡ st₂) × (le₁ ≡ le₂)
 one-judged-fresh su st le st₁ le₁ st₂ le₂ s l m =
-    let f = sized-fits s in
-    (store-laid su st le _ st₁ le₁ l ∙ sym (store-laid su st le _ st₂ le₂ m), lens-laid su st le _ st₁ le₁ l (f .2) ∙ sym (lens-laid su st le _ st₂ le₂ m (f .2)))
+    let f = sized-fits s in (
+      store-laid su st le _ st₁ le₁ l ∙ sym (store-laid su st le _ st₂ le₂ m),
+      lens-laid su st le _ st₁ le₁ l (f .2) ∙ sym (lens-laid su st le _ st₂ le₂ m (f .2)),
+    )

@@ -62,7 +62,8 @@ module _ (su : Setup) (st le : List ℕ) (s : Sound su st le) (st′ le′ : Lis
       let c = named (view su st le) d (choose (su .spill) (view su st le) (length d)) a (sym (e .answer)) in
       let f = address-back su st le s (length d) (c .0) (c .1) (c .2) in
       ap (λ (ps : List Pool). theSlot ps k i) (e .lists .seen)
-      ∙ add-others (su .spill) (view su st le) d (c .0) (c .1) (c .2) k i (λ g. o (g .0 ∙ sym (f .0) ∙ ap poolOf (sym (c .3)), g .1 ∙ sym (f .1) ∙ ap slotOf (sym (c .3))))
+      ∙ add-others (su .spill) (view su st le) d (c .0) (c .1) (c .2) k i
+      (λ g. o (g .0 ∙ sym (f .0) ∙ ap poolOf (sym (c .3)), g .1 ∙ sym (f .1) ∙ ap slotOf (sym (c .3))))
 
   -- ys was written through the part that `modify_part` lends
   pub others-modify : (a n : ℕ) (raw ys : List ℕ) → find (view su st le) a ≡ held n raw → length ys ≡ n → Elsewhere k i a

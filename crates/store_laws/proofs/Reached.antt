@@ -62,7 +62,9 @@ module _ (su : Setup) (st le : List ℕ) (s : Sound su st le) where
       go : (x : Choice) → choose (su .spill) (view su st le) (length d) ≡ x → Does su st le (λ ps. addIn (su .spill) ps d) p st′ le′
       go tooLarge e = as-judged _ (no 11 (length d ∷ [])) p st le st′ le′ (does-refused su st le _ _ (rw e)) w
       go (allTaken k) e = as-judged _ (no 12 (k ∷ [])) p st le st′ le′ (does-refused su st le _ _ (rw e)) w
-      go (into k i) e = as-judged _ _ p _ _ st′ le′ (add-at su st le d s (cellOf su k i) (room-there su st le s (length d) k i e) (addressOf k i) _ _ refl refl refl) w
+      go (into k i) e =
+          as-judged _ _ p _ _ st′ le′
+          (add-at su st le d s (cellOf su k i) (room-there su st le s (length d) k i e) (addressOf k i) _ _ refl refl refl) w
 
   pub delete-done : (a : ℕ) (p : Paper) (st′ le′ : List ℕ)
       → Writes su st le (judging su st le (λ ps. deleteIn ps a)) p st′ le′ → Does su st le (λ ps. deleteIn ps a) p st′ le′
@@ -73,7 +75,9 @@ module _ (su : Setup) (st le : List ℕ) (s : Sound su st le) where
       go noPool e = as-judged _ (no 16 (poolOf a ∷ [])) p st le st′ le′ (does-refused su st le _ _ (rw e)) w
       go noSlot e = as-judged _ (no 17 (slotOf a ∷ [])) p st le st′ le′ (does-refused su st le _ _ (rw e)) w
       go vacant e = as-judged _ (no 18 (addressOf (poolOf a) (slotOf a) ∷ [])) p st le st′ le′ (does-refused su st le _ _ (rw e)) w
-      go (held n b) e = as-judged _ _ p _ _ st′ le′ (delete-at su st le a s (cellOf su (poolOf a) (slotOf a)) (packet-there su st le s a n b e) _ _ refl refl) w
+      go (held n b) e =
+          as-judged _ _ p _ _ st′ le′
+          (delete-at su st le a s (cellOf su (poolOf a) (slotOf a)) (packet-there su st le s a n b e) _ _ refl refl) w
 
 held-len : (m n : ℕ) (b c : List ℕ) → held m b ≡ held n c → m ≡ n
 held-len m n b c q = cc

@@ -20,7 +20,8 @@ use Rattle.layout.specs.declared.Setup.{Setup}
 
 -- d was added and a answered; then come any requests that neither delete nor rewrite the slot that a names.
 -- Whoever asks for the packet at a gets d; a read gets d; a deletion is done, and makes it 18
-module _ (su : Setup) (st le : List ℕ) (s : Sound su st le) (d : List ℕ) (a : ℕ) (qs : List Pool) (q : addIn (su .spill) (view su st le) d ≡ done (a ∷ []) qs)
+module _ (su : Setup) (st le : List ℕ) (s : Sound su st le) (d : List ℕ) (a : ℕ) (qs : List Pool)
+    (q : addIn (su .spill) (view su st le) d ≡ done (a ∷ []) qs)
     (rs : List StoreRequest) (o : AllSpare a rs) where
   pub packet-back : packetIn (run (su .spill) qs rs) a ≡ done (length d ∷ []) d
   unfolding Kept

@@ -54,4 +54,5 @@ pub judging-refused : {A : Type 0} (su : Setup) (st le : List ℕ) (call : List 
     → Judges su (length st) le v → v ≡ Ve.Refused e → judging su st le call ≡ refused (paper e)
 unfolding judged judging verdictPaper
 judging-refused su st le call v e j q =
-    one-failed (setupOk su) (buffersOk su (length st) (length le)) (lensOk su le) (call (view su st le)) (paper e) (has-number e) (ap verdictPaper (sym q) ∙ j)
+    one-failed (setupOk su) (buffersOk su (length st) (length le)) (lensOk su le) (call (view su st le)) (paper e) (has-number e)
+    (ap verdictPaper (sym q) ∙ j)

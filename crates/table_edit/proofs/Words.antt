@@ -62,7 +62,9 @@ up-step w to from n k h l b =
     ∙ List·getD-append T (M ++ R) 0 (from + k) (omega arith)
     ∙ getD-take (to + (k + 1)) w (from + k) 0 (omega arith) in
     let e1 : take (to + k) (T ++ M ++ R) ≡ take (to + k) w
-    = ap (λ (x : List ℕ). take (to + k) x) asc ∙ take-append-le (to + k) T (M ++ R) (omega arith) ∙ take-take (to + k) (to + (k + 1)) w (omega arith) in
+    =
+    ap (λ (x : List ℕ). take (to + k) x) asc ∙ take-append-le (to + k) T (M ++ R) (omega arith)
+    ∙ take-take (to + k) (to + (k + 1)) w (omega arith) in
     let e2 : drop (suc (to + k)) (T ++ M ++ R) ≡ M ++ R
     = ap (λ (x : List ℕ). drop (suc (to + k)) x) asc ∙ drop-at T (M ++ R) (suc (to + k)) lT in
     let n1 : n - k ≡ suc (n - (k + 1)) = omega arith in

@@ -1,4 +1,5 @@
--- What the contracts of private functions cite: words moved and cleared within a list. A reader need not believe this: the public calls' promises do not name it.
+-- What the contracts of private functions cite: words moved and cleared within a list. A reader need not believe this: the public
+-- calls' promises do not name it.
 use Prim.Native.Nat.{_+_, ℕ}
 use lib.ListN.{drop, replicate, take}
 use lib.Seq.{paste}

@@ -145,7 +145,9 @@ module _ {su : Setup} {r : Record} {st le ro : List ℕ} (s : Sound su r st le r
   pub moment-ok : (m : Moment) → m ≡ momentOf (r .clock) → MomentInRange m
   moment-ok m e = rw e (record { nanos = clock-ok .nanos })
 
-pub due-is : (clock : UnixTime) (m : Moment) (es : List Entry) (d : ℕ) → m ≡ momentOf clock → d ≡ below (instantOf m + 1) es → d ≡ due (instant clock) es
+pub due-is :
+    (clock : UnixTime) (m : Moment) (es : List Entry) (d : ℕ) → m ≡ momentOf clock → d ≡ below (instantOf m + 1) es
+    → d ≡ due (instant clock) es
 due-is clock m es d e q = q ∙ rw e
 
 -- what is allowed of what is due lies within the rows, and the log's used part within the log

@@ -20,11 +20,13 @@ tickPaper (T.Refused e) = paper e
 abbrev pub left : Outcome Logged → Outcome State
 left o = into (λ x. x .state) o
 
-pub record Ticks (su : Setup) (r : Record) (st le ro lo : List ℕ) (o : Outcome Logged) (p : Paper) (r′ : Record) (st′ le′ ro′ lo′ : List ℕ) : Type 0 where
+pub record Ticks (su : Setup) (r : Record) (st le ro lo : List ℕ) (o : Outcome Logged) (p : Paper) (r′ : Record)
+    (st′ le′ ro′ lo′ : List ℕ) : Type 0 where
   pub tables : Writes su r st le ro (left o) p r′ st′ le′ ro′
   pub log : lo′ ≡ after o lo (λ x. x .log)
 
 -- the judged form, by what the lists stand for
-pub record TickDoes (su : Setup) (r : Record) (st le ro lo : List ℕ) (call : State → Outcome Logged) (p : Paper) (r′ : Record) (st′ le′ ro′ lo′ : List ℕ) : Type 0 where
+pub record TickDoes (su : Setup) (r : Record) (st le ro lo : List ℕ) (call : State → Outcome Logged) (p : Paper) (r′ : Record)
+    (st′ le′ ro′ lo′ : List ℕ) : Type 0 where
   pub tables : Does su r st le ro (λ s. left (call s)) p r′ st′ le′ ro′
   pub log : lo′ ≡ after (call (stateOf su r st le ro)) lo (λ x. x .log)

@@ -66,7 +66,9 @@ too-high z f e = go z (rw (toZ-ofZ f) at e)
     go (pos n) e = lt-leb n far (ltb-true far n e)
     go (negsuc n) e = absurd (subst T (sym e) tt)
 
-pub within : (z : ℤ) → SFits w64 z → ltZ (toZ w64 (ofZ w64 z)) (negsuc 4398046511103) ≡ false → ltZ (pos far) (toZ w64 (ofZ w64 z)) ≡ false → secsInRange z ≡ true
+pub within :
+    (z : ℤ) → SFits w64 z → ltZ (toZ w64 (ofZ w64 z)) (negsuc 4398046511103) ≡ false → ltZ (pos far) (toZ w64 (ofZ w64 z)) ≡ false
+    → secsInRange z ≡ true
 within z f e d = go z (rw (toZ-ofZ f) at e) (rw (toZ-ofZ f) at d)
   where
     go : (z : ℤ) → ltZ z (negsuc 4398046511103) ≡ false → ltZ (pos far) z ≡ false → secsInRange z ≡ true

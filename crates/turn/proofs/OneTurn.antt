@@ -20,12 +20,11 @@ use Rattle.store_laws.proofs.StaysSound.{delete-stays}
 use Rattle.store_laws.proofs.Wiped.{Missing, deleted-is, wipe-same}
 use Rattle.turn.specs.Turned.{Turned}
 use Rattle.turn.specs.Turns.{flagFor, flagOf, leave, packetOf}
-use lib.ListN.{drop, length, length-drop, length-take, take}
+use lib.ListN.{drop, length, take}
 use lib.Seq.{sets}
 use mathlib.Core.Bool.{Bool, false, true}
 use mathlib.Core.List.{List, [], _∷_}
 use mathlib.Core.Path.{_∙_, _≡_, ap, refl, subst, sym}
-use native.Mathlib.Nat.{min-eq-left}
 use native.Mathlib.Omega.{arith}
 use Rattle.layout.specs.Judge.{Sound as StoreSound}
 use Rattle.layout.specs.declared.Setup.{Setup}

@@ -50,7 +50,10 @@ largest after on ck limit cap es ps h =
     record {
       allowed = a .0;
       are-due = a .1;
-      fits = rw m (fits-all (fitting after 8 cap (take n es) ps) (fitting-le after cap 8 (take n es) ps) (fitting-holds after cap on 8 (take n es) ps h));
+      fits =
+          rw m
+          (fits-all (fitting after 8 cap (take n es) ps) (fitting-le after cap 8 (take n es) ps)
+          (fitting-holds after cap on 8 (take n es) ps h));
       most = λ k p q l. rw m (fitting-most after on 8 cap (take n es) ps k (rw long (omega arith)) (fit-some k (omega arith) l));
     }
   where

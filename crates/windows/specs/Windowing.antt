@@ -1,5 +1,5 @@
 -- Windows of time given as arguments: 4, 15, and retrieval. An end that a window has not is not looked at.
-use lib.Dec.{leb, ltb}
+use lib.Dec.{leb}
 use lib.ListN.{length}
 use mathlib.Core.Bool.{Bool, _&&_, true}
 use mathlib.Core.List.{[], _∷_}

@@ -12,8 +12,7 @@ use Rattle.rules.specs.Tests.{allOf, unless}
 use Rattle.schedule.specs.State.{State}
 use Rattle.stamp.specs.Stamp.{stampAt, stampOf}
 use Rattle.address.specs.Address.{addressOf, poolOf, slotOf}
-use Rattle.slots.specs.Pools.{Pool, findAt, free, taken}
-use Rattle.rows.specs.Entries.{Entry}
+use Rattle.slots.specs.Pools.{findAt, free, taken}
 use Rattle.table.specs.Before.{below}
 use Rattle.tick.specs.Tick.{firstLacks, handedOut, tickIn}
 use Rattle.turn.specs.Turns.{handout, leave}
@@ -105,10 +104,12 @@ lines =
     code (49 ∷ 50 ∷ 51 ∷ 52 ∷ 53 ∷ 54 ∷ 55 ∷ 56 ∷ 57 ∷ []) 0x29B1 ∷
     -- P at address 1, enabled, alone due: 42 bytes, and those behind them stay. A 41-byte log gets 20 with 42
     logs holdsP (replicate 43 7)
-    ((0 ∷ 0 ∷ 0 ∷ 1 ∷ 0 ∷ 0 ∷ 0 ∷ 0x2A ∷ 0 ∷ 0 ∷ 0 ∷ 0x0C ∷ 1 ∷ 0 ∷ 0 ∷ 0 ∷ 0 ∷ 0 ∷ 2 ∷ 0 ∷ 0x11 ∷ 0 ∷ 0 ∷ 0 ∷ 0 ∷ 0 ∷ 0 ∷ 0 ∷ 1 ∷ []) ++ packetP ++ (7 ∷ [])) ∷
+    ((0 ∷ 0 ∷ 0 ∷ 1 ∷ 0 ∷ 0 ∷ 0 ∷ 0x2A ∷ 0 ∷ 0 ∷ 0 ∷ 0x0C ∷ 1 ∷ 0 ∷ 0 ∷ 0 ∷ 0 ∷ 0 ∷ 2 ∷ 0 ∷ 0x11 ∷ 0 ∷ 0 ∷ 0 ∷ 0 ∷ 0 ∷ 0 ∷ 0 ∷ 1 ∷
+    []) ++ packetP ++ (7 ∷ [])) ∷
     lacks holdsP (replicate 41 7) 42 ∷
     []
 
 pub worked : Every lines
-unfolding after allOf below bytesOf checkCode feed findAt firstLacks handedOut handout leave logBytes number offsets recordBytes records says shift stampAt stampOf tickIn total unless
+unfolding after allOf below bytesOf checkCode feed findAt firstLacks handedOut handout leave logBytes number offsets recordBytes
+    records says shift stampAt stampOf tickIn total unless
 worked = (refl, (refl, (refl, (refl, (refl, (refl, (refl, (refl, (refl, ((refl, refl), (refl, (refl, (refl, tt)))))))))))))

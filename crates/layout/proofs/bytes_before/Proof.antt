@@ -34,7 +34,11 @@ loop-again c =
     )
 
 returns : tie.Need-returns Inv-loop μ-loop
-returns c = (c .before .loop .inv .1 ∙ ap (bytesBefore (c .before .before .args .setup)) (le-antisymm (c .before .loop .inv .0) (c .loop-test .left)), omega arith)
+returns c = (
+  c .before .loop .inv .1
+      ∙ ap (bytesBefore (c .before .before .args .setup)) (le-antisymm (c .before .loop .inv .0) (c .loop-test .left)),
+  omega arith,
+)
 
 pub bytes-before-spec : {M : Type 1} → statement M
 bytes-before-spec =

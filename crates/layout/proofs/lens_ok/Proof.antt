@@ -24,17 +24,46 @@ loop-holds : tie.Need-loop-holds Inv-loop μ-loop
 loop-holds c = (setup-few _ (c .before .pre .0), omega arith, sym (rows-none _), below-none _)
 
 pool-lens-ok-requires : tie.Need-pool-lens-ok-requires Inv-loop μ-loop
-pool-lens-ok-requires c κs = (omega (arith, rows-within (c .before .before .before .before .before .args .setup) (c .before .before .before .loop .k) (c .before .before .before .before .before .args .setup .pools) (search needs)), c .before .slots-at .ensures .1)
+pool-lens-ok-requires c κs = (
+  omega (
+    arith,
+    rows-within (c .before .before .before .before .before .args .setup) (c .before .before .before .loop .k)
+        (c .before .before .before .before .before .args .setup .pools) (search needs),
+  ),
+  c .before .slots-at .ensures .1,
+)
 
 returns : tie.Need-returns Inv-loop μ-loop
 unfolding lensOk
-returns c = all-stop _ _ (c .before .before .before .before .before .loop .k) (search needs) (rows-test _ (c .before .before .before .before .before .before .before .args .lens .now) _ _ _ _ _ _ (c .before .before .before .before .before .loop .inv .2) (c .before .before .slot-size .ensures) (c .before .before .before .slots-at .ensures .0) (c .before .pool-lens-ok .ensures) (not-true _ (c .if1 .taken)))
+returns c =
+    all-stop _ _ (c .before .before .before .before .before .loop .k) (search needs)
+    (rows-test _ (c .before .before .before .before .before .before .before .args .lens .now) _ _ _ _ _ _
+    (c .before .before .before .before .before .loop .inv .2) (c .before .before .slot-size .ensures)
+    (c .before .before .before .slots-at .ensures .0) (c .before .pool-lens-ok .ensures) (not-true _ (c .if1 .taken)))
 
 add-base : tie.Need-add-base Inv-loop μ-loop
-add-base c = omega (arith, rows-within (c .before .before .before .before .before .before .before .args .setup) (c .before .before .before .before .before .loop .k) (c .before .before .before .before .before .before .before .args .setup .pools) (search needs))
+add-base c =
+    omega (
+      arith,
+      rows-within (c .before .before .before .before .before .before .before .args .setup)
+          (c .before .before .before .before .before .loop .k)
+          (c .before .before .before .before .before .before .before .args .setup .pools) (search needs),
+    )
 
 loop-again : tie.Need-loop-again Inv-loop μ-loop
-loop-again c = (omega arith, omega arith, omega (arith, rows-more (c .before .before .before .before .before .before .before .args .setup) (c .before .before .before .before .before .loop .k)), below-more _ _ (c .before .before .before .before .before .loop .inv .3) (rows-test _ (c .before .before .before .before .before .before .before .args .lens .now) _ _ _ _ _ _ (c .before .before .before .before .before .loop .inv .2) (c .before .before .slot-size .ensures) (c .before .before .before .slots-at .ensures .0) (c .before .pool-lens-ok .ensures) (not-false _ (c .if1 .left))))
+loop-again c = (
+  omega arith,
+  omega arith,
+  omega (
+    arith,
+    rows-more (c .before .before .before .before .before .before .before .args .setup)
+        (c .before .before .before .before .before .loop .k),
+  ),
+  below-more _ _ (c .before .before .before .before .before .loop .inv .3)
+      (rows-test _ (c .before .before .before .before .before .before .before .args .lens .now) _ _ _ _ _ _
+      (c .before .before .before .before .before .loop .inv .2) (c .before .before .slot-size .ensures)
+      (c .before .before .before .slots-at .ensures .0) (c .before .pool-lens-ok .ensures) (not-false _ (c .if1 .left))),
+)
 
 returns-2 : tie.Need-returns-2 Inv-loop μ-loop
 unfolding lensOk

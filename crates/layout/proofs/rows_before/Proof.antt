@@ -23,7 +23,11 @@ loop-again : tie.Need-loop-again Inv-loop μ-loop
 loop-again c = omega (arith, rows-more (c .before .before .before .args .setup) (c .before .before .loop .i))
 
 returns : tie.Need-returns Inv-loop μ-loop
-returns c = (c .before .loop .inv .1 ∙ ap (rowsBefore (c .before .before .args .setup)) (le-antisymm (c .before .loop .inv .0) (c .loop-test .left)), omega arith)
+returns c = (
+  c .before .loop .inv .1
+      ∙ ap (rowsBefore (c .before .before .args .setup)) (le-antisymm (c .before .loop .inv .0) (c .loop-test .left)),
+  omega arith,
+)
 
 pub rows-before-spec : {M : Type 1} → statement M
 rows-before-spec =

@@ -17,11 +17,25 @@ returns-2 c = simp (le-leb _ _ (c .before .if1 .left), lt-leb _ _ (c .if2 .taken
 
 returns-3 : tie.Need-returns-3
 unfolding setupOk allOf
-returns-3 c = simp (le-leb _ _ (c .before .before .before .if1 .left), le-leb _ _ (c .before .before .if2 .left), ← (c .before .pools-ok .ensures), not-true (c .before .pools-ok .result) (c .if3 .taken))
+returns-3 c =
+    simp (
+      le-leb _ _ (c .before .before .before .if1 .left),
+      le-leb _ _ (c .before .before .if2 .left),
+      ← (c .before .pools-ok .ensures),
+      not-true (c .before .pools-ok .result) (c .if3 .taken),
+    )
 
 returns-4 : tie.Need-returns-4
 unfolding setupOk allOf
-returns-4 c = simp (le-leb _ _ (c .before .before .before .before .if1 .left), le-leb _ _ (c .before .before .before .if2 .left), ← (c .before .before .pools-ok .ensures), not-false (c .before .before .pools-ok .result) (c .before .if3 .left), ← (c .bytes-before .ensures .0), and-true)
+returns-4 c =
+    simp (
+      le-leb _ _ (c .before .before .before .before .if1 .left),
+      le-leb _ _ (c .before .before .before .if2 .left),
+      ← (c .before .before .pools-ok .ensures),
+      not-false (c .before .before .pools-ok .result) (c .before .if3 .left),
+      ← (c .bytes-before .ensures .0),
+      and-true,
+    )
 
 pub setup-ok-spec : {M : Type 1} → statement M
 setup-ok-spec =

@@ -12,19 +12,39 @@ validate-requires : tie.Need-validate-requires
 validate-requires c κs = bounds (c .before .before .before .pre) .few-pools
 
 mul-w : tie.Need-mul-w
-mul-w c = let h = row-inside _ (c .before .before .before .before .before .before .before .args .lens .now) _ _ _ (bounds (c .before .before .before .before .before .before .before .pre) .rows-fit) (sym (c .before .before .before .validate .ensures) ∙ c .before .spot2 .given .1) in omega (arith, h)
+mul-w c =
+    let h = row-inside _ (c .before .before .before .before .before .before .before .args .lens .now) _ _ _
+    (bounds (c .before .before .before .before .before .before .before .pre) .rows-fit)
+    (sym (c .before .before .before .validate .ensures) ∙ c .before .spot2 .given .1) in
+    omega (arith, h)
 
 shared-slice-read-w : tie.Need-shared-slice-read-w
-shared-slice-read-w c = row-inside _ (c .before .before .before .before .before .before .before .before .args .lens .now) _ _ _ (bounds (c .before .before .before .before .before .before .before .before .pre) .rows-fit) (sym (c .before .before .before .before .validate .ensures) ∙ c .before .before .spot2 .given .1)
+shared-slice-read-w c =
+    row-inside _ (c .before .before .before .before .before .before .before .before .args .lens .now) _ _ _
+    (bounds (c .before .before .before .before .before .before .before .before .pre) .rows-fit)
+    (sym (c .before .before .before .before .validate .ensures) ∙ c .before .before .spot2 .given .1)
 
 returns : tie.Need-returns
-returns c = len-vacant _ (c .before .before .before .before .before .before .before .before .before .args .store .now) _ _ _ _ (c .before .before .before .before .before .before .decode .ensures .0) (c .before .before .before .before .before .before .decode .ensures .1) _ (sym (c .before .before .before .before .before .validate .ensures) ∙ c .before .before .before .spot2 .given .1) (c .if1 .taken)
+returns c =
+    len-vacant _ (c .before .before .before .before .before .before .before .before .before .args .store .now) _ _ _ _
+    (c .before .before .before .before .before .before .decode .ensures .0)
+    (c .before .before .before .before .before .before .decode .ensures .1) _
+    (sym (c .before .before .before .before .before .validate .ensures) ∙ c .before .before .before .spot2 .given .1)
+    (c .if1 .taken)
 
 returns-2 : tie.Need-returns-2
-returns-2 c = len-refused _ (c .before .before .before .before .before .before .before .args .store .now) _ _ _ _ (c .before .before .before .before .decode .ensures .0) (c .before .before .before .before .decode .ensures .1) _ (sym (c .before .before .before .validate .ensures) ∙ c .before .spot .given .1)
+returns-2 c =
+    len-refused _ (c .before .before .before .before .before .before .before .args .store .now) _ _ _ _
+    (c .before .before .before .before .decode .ensures .0) (c .before .before .before .before .decode .ensures .1) _
+    (sym (c .before .before .before .validate .ensures) ∙ c .before .spot .given .1)
 
 returns-3 : tie.Need-returns-3
-returns-3 c = len-held _ (c .before .before .before .before .before .before .before .before .before .before .args .store .now) _ _ _ _ (c .before .before .before .before .before .before .before .decode .ensures .0) (c .before .before .before .before .before .before .before .decode .ensures .1) _ (sym (c .before .before .before .before .before .before .validate .ensures) ∙ c .before .before .before .before .spot2 .given .1) (c .before .if1 .left) _ (c .wide .ensures .0)
+returns-3 c =
+    len-held _ (c .before .before .before .before .before .before .before .before .before .before .args .store .now) _ _ _ _
+    (c .before .before .before .before .before .before .before .decode .ensures .0)
+    (c .before .before .before .before .before .before .before .decode .ensures .1) _
+    (sym (c .before .before .before .before .before .before .validate .ensures)
+    ∙ c .before .before .before .before .spot2 .given .1) (c .before .if1 .left) _ (c .wide .ensures .0)
 
 pub len-of-data-spec : {M : Type 1} → statement M
 len-of-data-spec =

@@ -17,16 +17,29 @@ returns : tie.Need-returns
 returns c = read-small _ _ _ _ _ _ _ (c .before .before .before .before .find .ensures) (c .before .before .w2 .given .1) (c .if1 .taken)
 
 add-end : tie.Need-add-end
-add-end c = let h = span-inside _ _ _ _ _ _ (c .before .before .before .before .find .ensures) (c .before .before .w2 .given .1) in omega (arith, h .1)
+add-end c =
+    let h = span-inside _ _ _ _ _ _ (c .before .before .before .before .find .ensures) (c .before .before .w2 .given .1) in
+    omega (arith, h .1)
 
 part-copy-in-end : tie.Need-part-copy-in-end
-part-copy-in-end c = let h = span-inside _ _ _ _ _ _ (c .before .before .before .before .before .find .ensures) (c .before .before .before .w2 .given .1) in omega (arith, h .1)
+part-copy-in-end c =
+    let h = span-inside _ _ _ _ _ _ (c .before .before .before .before .before .find .ensures)
+    (c .before .before .before .w2 .given .1) in
+    omega (arith, h .1)
 
 returns-2 : tie.Need-returns-2
 returns-2 c = read-refused _ _ _ _ _ _ _ (c .before .before .before .find .ensures) (c .before .w .given .1)
 
 returns-3 : tie.Need-returns-3
-returns-3 c = read-at _ _ _ _ _ _ _ (c .before .before .before .before .before .before .before .before .before .find .ensures) (c .before .before .before .before .before .before .before .w2 .given .1) (c .before .before .before .before .before .if1 .left) _ (c .before .before .copy-in .ensures ∙ ap (λ (l : List ℕ). over l (c .before .before .before .before .before .before .before .before .before .before .before .before .before .args .buf .now)) (taken-out _ _ _ _ refl))
+returns-3 c =
+    read-at _ _ _ _ _ _ _ (c .before .before .before .before .before .before .before .before .before .find .ensures)
+    (c .before .before .before .before .before .before .before .w2 .given .1)
+    (c .before .before .before .before .before .if1 .left) _
+    (c .before .before .copy-in .ensures
+    ∙ ap
+    (λ (l : List ℕ). over l
+    (c .before .before .before .before .before .before .before .before .before .before .before .before .before .args
+    .buf .now)) (taken-out _ _ _ _ refl))
 
 pub read-spec : {M : Type 1} → statement M
 read-spec =

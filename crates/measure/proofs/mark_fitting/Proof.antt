@@ -71,7 +71,8 @@ loop-again c =
     let l = d .before .before .before .before .before in
     measuring-next _ _ _ _ _ _ _ _ _ _ (l .loop .inv) _ _ _ _
     (d .before .before .before .tc-info .ensures .1) (d .before .before .row-of .ensures) (l .before .rows .ensures) (d .bytes-left .ensures .0)
-    (l .before .before .before .before .before .pre .0) (d .before .before .before .before .loop-test .taken) (c .before .before .before .before .if1 .left)
+    (l .before .before .before .before .before .pre .0) (d .before .before .before .before .loop-test .taken)
+    (c .before .before .before .before .if1 .left)
     _ (c .before .before .mark .ensures)
 
 same-length-2 : tie.Need-same-length-2 Inv-loop μ-loop

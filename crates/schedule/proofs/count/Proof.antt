@@ -1,10 +1,8 @@
 -- `schedule::count` meets its contract.
 -- Assumes nothing.
-use mathlib.Core.Path.{_∙_, sym}
 use borrow.Author.Needs.{needs}
 use Rattle.rules.specs.Papers.{says}
 use Rattle.schedule.specs.Answers.{countedPaper}
-use Rattle.schedule.specs.State.{stateOf}
 use Rattle.schedule.specs.Counting.{countIn}
 use Rattle.schedule.proofs.Counting.{counts}
 use Rattle.schedule.proofs.Judging.{judging-refused, sound-by}

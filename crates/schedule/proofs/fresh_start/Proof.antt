@@ -13,8 +13,10 @@ use Rattle.schedule.proofs.fresh_start.Tie as tie
 
 fine : (c : tie.After-enum-told)
     → (setupOk (c .before .before .before .before .before .before .args .setup) ≡ true)
-    × (buffersOk (c .before .before .before .before .before .before .args .setup) (length (c .before .before .before .before .before .before .args .store .now))
-    (length (c .before .before .before .before .before .before .args .lens .now)) (length (c .before .before .before .before .before .before .args .rows .now)) ≡ true)
+    × (buffersOk (c .before .before .before .before .before .before .args .setup)
+    (length (c .before .before .before .before .before .before .args .store .now))
+    (length (c .before .before .before .before .before .before .args .lens .now))
+    (length (c .before .before .before .before .before .before .args .rows .now)) ≡ true)
 fine c = start-passed _ _ _ _ _ _ _ (c .before .before .judge-start .ensures) (c .enum-told .given .1)
 
 fresh-requires : tie.Need-fresh-requires
@@ -31,7 +33,8 @@ returns : tie.Need-returns
 returns c =
     let j = c .before .before .before in
     let a = j .before .before .before .before .args in
-    start-refused (a .setup) (a .rec) (a .store .now) (a .lens .now) (a .rows .now) (a .clock) (a .margin) _ (j .judge-start .ensures) _ (c .before .j .given .1)
+    start-refused (a .setup) (a .rec) (a .store .now) (a .lens .now) (a .rows .now) (a .clock) (a .margin) _
+    (j .judge-start .ensures) _ (c .before .j .given .1)
 
 returns-2 : tie.Need-returns-2
 returns-2 c =
@@ -40,7 +43,8 @@ returns-2 c =
     let t = x .before .before .before .before in
     let j = t .before .before in
     let a = j .before .before .before .before .args in
-    start-done (a .setup) (a .rec) (a .store .now) (a .lens .now) (a .rows .now) (a .clock) (a .margin) _ (j .judge-start .ensures) _ _ _ _ (t .enum-told .given .1)
+    start-done (a .setup) (a .rec) (a .store .now) (a .lens .now) (a .rows .now) (a .clock) (a .margin) _
+    (j .judge-start .ensures) _ _ _ _ (t .enum-told .given .1)
     (c .started .ensures) (x .fresh .ensures) (m .remove .ensures)
 
 pub fresh-start-spec : {M : Type 1} → statement M

@@ -15,8 +15,10 @@ setup-fine : (c : tie.Else1) → setupOk (c .before .before .before .before .bef
 setup-fine c = let p = c .before .setup-ok in sym (p .ensures) ∙ not-false (p .result) (c .if1 .left)
 
 buffers-fine : (c : tie.Else2)
-    → buffersOk (c .before .before .before .before .before .before .before .args .setup) (length (c .before .before .before .before .before .before .before .args .store .now))
-    (length (c .before .before .before .before .before .before .before .args .lens .now)) (length (c .before .before .before .before .before .before .before .args .rows .now)) ≡ true
+    → buffersOk (c .before .before .before .before .before .before .before .args .setup)
+    (length (c .before .before .before .before .before .before .before .args .store .now))
+    (length (c .before .before .before .before .before .before .before .args .lens .now))
+    (length (c .before .before .before .before .before .before .before .args .rows .now)) ≡ true
 buffers-fine c = let p = c .before .buffers-ok in sym (p .ensures) ∙ not-false (p .result) (c .if2 .left)
 
 returns : tie.Need-returns
@@ -33,7 +35,8 @@ returns-2 c =
     let p = c .before .buffers-ok in
     let e1 = c .before .before in
     let a = e1 .before .before .before .before .before .args in
-    no-buffers (a .setup) (a .rec) (a .store .now) (a .lens .now) (a .rows .now) (setup-fine e1) (sym (p .ensures) ∙ not-true (p .result) (c .if2 .taken))
+    no-buffers (a .setup) (a .rec) (a .store .now) (a .lens .now) (a .rows .now) (setup-fine e1)
+    (sym (p .ensures) ∙ not-true (p .result) (c .if2 .taken))
 
 state-ok-requires : tie.Need-state-ok-requires
 state-ok-requires c κs = let e1 = c .before .before in long-enough _ _ _ _ (setup-fine e1) (buffers-fine c)

@@ -1,6 +1,5 @@
 -- `schedule_answers::behind` meets its contract.
 -- Assumes nothing.
-use Rattle.face_words.specs.declared.Words.{Words}
 use borrow.Author.Needs.{needs}
 use Rattle.schedule_answers.proofs.behind.Statement.{statement}
 use Rattle.schedule_answers.proofs.behind.Tie as tie

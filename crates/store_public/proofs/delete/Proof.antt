@@ -15,7 +15,11 @@ unfolding deletedPaper
 returns c = writes-refused _ _ _ _ _ _ (c .before .before .before .judge .ensures) (c .before .j .given .1)
 
 returns-2 : tie.Need-returns-2
-returns-2 c = writes _ _ _ _ _ _ _ (sound-by _ _ _ _ (c .before .before .before .before .before .before .before .before .before .judge .ensures) (c .before .before .before .before .before .before .before .enum-told .given .1)) (c .before .before .before .before .delete .ensures)
+returns-2 c =
+    writes _ _ _ _ _ _ _
+    (sound-by _ _ _ _ (c .before .before .before .before .before .before .before .before .before .judge .ensures)
+    (c .before .before .before .before .before .before .before .enum-told .given .1))
+    (c .before .before .before .before .delete .ensures)
 
 pub delete-spec : {M : Type 1} → statement M
 delete-spec =

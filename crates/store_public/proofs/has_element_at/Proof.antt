@@ -12,10 +12,14 @@ has-element-at-requires c κs = sound-by _ _ _ _ (c .before .before .judge .ensu
 
 returns : tie.Need-returns
 unfolding presencePaper
-returns c = asks-refused _ (c .before .before .before .before .before .before .args .store .now) _ _ _ _ (c .before .before .before .judge .ensures) (c .before .j .given .1)
+returns c =
+    asks-refused _ (c .before .before .before .before .before .before .args .store .now) _ _ _ _
+    (c .before .before .before .judge .ensures) (c .before .j .given .1)
 
 returns-2 : tie.Need-returns-2
-returns-2 c = asks-fine _ _ _ (λ ps. hasIn ps (c .before .before .before .before .before .before .args .addr)) _ (sound-by _ _ _ _ (c .before .before .before .judge .ensures) (c .before .enum-told .given .1)) (c .has-element-at .ensures)
+returns-2 c =
+    asks-fine _ _ _ (λ ps. hasIn ps (c .before .before .before .before .before .before .args .addr)) _
+    (sound-by _ _ _ _ (c .before .before .before .judge .ensures) (c .before .enum-told .given .1)) (c .has-element-at .ensures)
 
 pub has-element-at-spec : {M : Type 1} → statement M
 has-element-at-spec =

@@ -12,10 +12,14 @@ len-of-data-requires c κs = sound-by _ _ _ _ (c .before .before .judge .ensures
 
 returns : tie.Need-returns
 unfolding lengthPaper
-returns c = asks-refused _ (c .before .before .before .before .before .before .args .store .now) _ _ _ _ (c .before .before .before .judge .ensures) (c .before .j .given .1)
+returns c =
+    asks-refused _ (c .before .before .before .before .before .before .args .store .now) _ _ _ _
+    (c .before .before .before .judge .ensures) (c .before .j .given .1)
 
 returns-2 : tie.Need-returns-2
-returns-2 c = asks-fine _ _ _ (λ ps. lenIn ps (c .before .before .before .before .before .before .args .addr)) _ (sound-by _ _ _ _ (c .before .before .before .judge .ensures) (c .before .enum-told .given .1)) (c .len-of-data .ensures)
+returns-2 c =
+    asks-fine _ _ _ (λ ps. lenIn ps (c .before .before .before .before .before .before .args .addr)) _
+    (sound-by _ _ _ _ (c .before .before .before .judge .ensures) (c .before .enum-told .given .1)) (c .len-of-data .ensures)
 
 pub len-of-data-spec : {M : Type 1} → statement M
 len-of-data-spec =

@@ -9,7 +9,9 @@ lent-requires : tie.Need-lent-requires
 lent-requires c κs = sound-by _ _ _ _ (c .before .before .judge .ensures) (c .enum-told2 .given .1)
 
 returns : tie.Need-returns
-returns c = lends-judge _ (c .before .before .before .before .before .args .store .now) _ _ _ _ (c .before .before .judge .ensures) (c .enum-told .given .1)
+returns c =
+    lends-judge _ (c .before .before .before .before .before .args .store .now) _ _ _ _ (c .before .before .judge .ensures)
+    (c .enum-told .given .1)
 
 returns-2 : tie.Need-returns-2
 returns-2 c = c .lent .ensures

@@ -12,10 +12,14 @@ modify-requires c κs = sound-by _ _ _ _ (c .before .before .judge .ensures) (c 
 
 returns : tie.Need-returns
 unfolding lengthPaper
-returns c = asks-refused _ (c .before .before .before .before .before .before .args .store .now) _ _ _ _ (c .before .before .before .judge .ensures) (c .before .j .given .1)
+returns c =
+    asks-refused _ (c .before .before .before .before .before .before .args .store .now) _ _ _ _
+    (c .before .before .before .judge .ensures) (c .before .j .given .1)
 
 returns-2 : tie.Need-returns-2
-returns-2 c = asks-fine _ _ _ (λ ps. packetIn ps (c .before .before .before .before .before .before .args .addr)) _ (sound-by _ _ _ _ (c .before .before .before .judge .ensures) (c .before .enum-told .given .1)) (c .modify .ensures)
+returns-2 c =
+    asks-fine _ _ _ (λ ps. packetIn ps (c .before .before .before .before .before .before .args .addr)) _
+    (sound-by _ _ _ _ (c .before .before .before .judge .ensures) (c .before .enum-told .given .1)) (c .modify .ensures)
 
 pub modify-spec : {M : Type 1} → statement M
 modify-spec =

@@ -14,7 +14,12 @@ part-store-end : tie.Need-part-store-end
 part-store-end c = c .before .lent .ensures .inside
 
 returns : tie.Need-returns
-returns c = (taken-out _ _ _ _ refl ∙ c .before .before .lent .ensures .bytes, refl, ap (λ (n : ℕ). n + c .before .before .before .before .before .before .args .store .ptr .1) (c .before .before .lent .ensures .start))
+returns c = (
+  taken-out _ _ _ _ refl ∙ c .before .before .lent .ensures .bytes,
+  refl,
+  ap (λ (n : ℕ). n + c .before .before .before .before .before .before .args .store .ptr .1)
+      (c .before .before .lent .ensures .start),
+)
 
 pub modify-part-spec : {M : Type 1} → statement M
 modify-part-spec =

@@ -12,10 +12,17 @@ read-requires c κs = sound-by _ _ _ _ (c .before .before .before .judge .ensure
 
 returns : tie.Need-returns
 unfolding lengthPaper
-returns c = reads-refused _ (c .before .before .before .before .before .before .before .args .store .now) _ _ _ _ _ (c .before .before .before .judge .ensures) (c .before .j .given .1)
+returns c =
+    reads-refused _ (c .before .before .before .before .before .before .before .args .store .now) _ _ _ _ _
+    (c .before .before .before .judge .ensures) (c .before .j .given .1)
 
 returns-2 : tie.Need-returns-2
-returns-2 c = reads-fine _ _ _ (λ ps. readIn ps (c .before .before .before .before .before .before .before .before .before .before .args .addr) (c .before .before .before .before .before .before .before .before .before .before .args .buf .now)) _ _ _ (sound-by _ _ _ _ (c .before .before .before .before .before .before .judge .ensures) (c .before .before .before .before .enum-told .given .1)) (c .before .before .read .ensures)
+returns-2 c =
+    reads-fine _ _ _
+    (λ ps. readIn ps (c .before .before .before .before .before .before .before .before .before .before .args .addr)
+    (c .before .before .before .before .before .before .before .before .before .before .args .buf .now)) _ _ _
+    (sound-by _ _ _ _ (c .before .before .before .before .before .before .judge .ensures)
+    (c .before .before .before .before .enum-told .given .1)) (c .before .before .read .ensures)
 
 pub read-spec : {M : Type 1} → statement M
 read-spec =

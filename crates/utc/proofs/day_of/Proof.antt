@@ -7,7 +7,17 @@ use Rattle.utc.proofs.day_of.Statement.{statement}
 use Rattle.utc.proofs.day_of.Tie as tie
 
 returns-6 : tie.Need-returns-6
-returns-6 c = record { most = omega arith; same = λ p f. omega (arith, p .day-to, month-most (c .before .before .before .before .before .before .before .before .before .before .before .before .args .d .year) (c .before .before .before .before .before .before .before .before .before .before .before .before .args .d .month)) }
+returns-6 c =
+    record {
+      most = omega arith;
+      same = λ p f. omega (
+        arith,
+        p .day-to,
+        month-most
+            (c .before .before .before .before .before .before .before .before .before .before .before .before .args .d .year)
+            (c .before .before .before .before .before .before .before .before .before .before .before .before .args .d .month),
+      );
+    }
 
 returns-7 : tie.Need-returns-7
 unfolding dayNumber

@@ -24,7 +24,12 @@ loop-again : tie.Need-loop-again Inv-loop μ-loop
 loop-again c = (month-more _ _ _ _ _ (c .before .before .before .loop .inv .0) (c .before .month-days .ensures) (omega arith), omega arith)
 
 returns-2 : tie.Need-returns-2 Inv-loop μ-loop
-returns-2 c = record { sum = c .before .loop .inv .0; less = december _ _ _ _ (omega arith) (c .before .loop .inv .0) (c .before .before .pre); few = omega arith }
+returns-2 c =
+    record {
+      sum = c .before .loop .inv .0;
+      less = december _ _ _ _ (omega arith) (c .before .loop .inv .0) (c .before .before .pre);
+      few = omega arith;
+    }
 
 pub months-spec : {M : Type 1} → statement M
 months-spec =

@@ -21,7 +21,11 @@ add-sum : tie.Need-add-sum Inv-loop μ-loop
 add-sum c = omega (arith, month-most (c .before .before .before .args .y) (c .before .before .loop .i + 1))
 
 loop-again : tie.Need-loop-again Inv-loop μ-loop
-loop-again c = (omega arith, months-more _ _ _ _ (c .before .before .loop .inv .1) (c .month-days .ensures), omega (arith, month-most (c .before .before .before .args .y) (c .before .before .loop .i + 1)))
+loop-again c = (
+  omega arith,
+  months-more _ _ _ _ (c .before .before .loop .inv .1) (c .month-days .ensures),
+  omega (arith, month-most (c .before .before .before .args .y) (c .before .before .loop .i + 1)),
+)
 
 returns : tie.Need-returns Inv-loop μ-loop
 returns c = let e : c .before .loop .i ≡ c .before .before .args .n = omega arith in (c .before .loop .inv .1 ∙ ap (monthsDays _) e, omega arith)

@@ -21,7 +21,11 @@ loop-less : tie.Need-loop-less Inv-loop μ-loop
 loop-less c = omega (arith, some-days (1970 + c .before .before .loop .n))
 
 loop-again : tie.Need-loop-again Inv-loop μ-loop
-loop-again c = (year-more _ _ _ _ (c .before .before .loop .inv .0) (c .before .before .loop .inv .2) (omega arith), omega (arith, some-days (1970 + c .before .before .loop .n)), c .year-days2 .ensures)
+loop-again c = (
+  year-more _ _ _ _ (c .before .before .loop .inv .0) (c .before .before .loop .inv .2) (omega arith),
+  omega (arith, some-days (1970 + c .before .before .loop .n)),
+  c .year-days2 .ensures,
+)
 
 returns : tie.Need-returns Inv-loop μ-loop
 returns c = record { sum = c .before .loop .inv .0; less = omega arith; few = omega arith }

@@ -21,7 +21,11 @@ add-sum : tie.Need-add-sum Inv-loop μ-loop
 add-sum c = omega (arith, year-most (1970 + c .before .before .loop .i))
 
 loop-again : tie.Need-loop-again Inv-loop μ-loop
-loop-again c = (omega arith, years-more _ _ _ (c .before .before .loop .inv .1) (c .year-days .ensures), omega (arith, year-most (1970 + c .before .before .loop .i)))
+loop-again c = (
+  omega arith,
+  years-more _ _ _ (c .before .before .loop .inv .1) (c .year-days .ensures),
+  omega (arith, year-most (1970 + c .before .before .loop .i)),
+)
 
 returns : tie.Need-returns Inv-loop μ-loop
 returns c = let e : c .before .loop .i ≡ c .before .before .args .n = omega arith in (c .before .loop .inv .1 ∙ ap yearsDays e, omega arith)

@@ -57,8 +57,11 @@ loop-less c = omega arith
 loop-again : tie.Need-loop-again Inv-loop μ-loop
 loop-again c =
     let l = c .before .before .before .loop in
-    let a = c .before .before .before .before .before .args in
-    (omega arith, longer (a .bytes .now) (a .at) (l .k) _ _ (l .inv .1) (c .wide .ensures), byte-more (l .k) (l .v) (c .wide .result) (l .inv .2) (byte c))
+    let a = c .before .before .before .before .before .args in (
+      omega arith,
+      longer (a .bytes .now) (a .at) (l .k) _ _ (l .inv .1) (c .wide .ensures),
+      byte-more (l .k) (l .v) (c .wide .result) (l .inv .2) (byte c),
+    )
 
 returns : tie.Need-returns Inv-loop μ-loop
 returns c =

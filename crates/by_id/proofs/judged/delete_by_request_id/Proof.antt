@@ -17,7 +17,8 @@ returns c =
     let v = c .before in
     let s = v .before .before .before .before .before in
     let a = s .args in
-    keep-none (a .setup) (a .rec) (a .store .now) (a .lens .now) (a .rows .now) (facts (s .pre)) (a .request-id) _ (v .victim .ensures .1) (c .if1 .taken)
+    keep-none (a .setup) (a .rec) (a .store .now) (a .lens .now) (a .rows .now) (facts (s .pre)) (a .request-id) _
+    (v .victim .ensures .1) (c .if1 .taken)
 
 tc-info-requires : tie.Need-tc-info-requires
 tc-info-requires c κs =
@@ -45,7 +46,8 @@ returns-2 c =
     let v = e .before in
     let s = v .before .before .before .before .before in
     let a = s .args in
-    keep-done (a .setup) (a .rec) (a .store .now) (a .lens .now) (a .rows .now) (facts (s .pre)) (a .request-id) _ (v .victim .ensures .1) (e .if1 .left) _ _ _
+    keep-done (a .setup) (a .rec) (a .store .now) (a .lens .now) (a .rows .now) (facts (s .pre)) (a .request-id) _
+    (v .victim .ensures .1) (e .if1 .left) _ _ _
     (i .tc-info .ensures .1) (c .with-count .ensures) (m .remove .ensures)
 
 pub delete-by-request-id-spec : {M : Type 1} → statement M

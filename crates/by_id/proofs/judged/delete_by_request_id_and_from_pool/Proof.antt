@@ -17,7 +17,8 @@ returns c =
     let v = c .before in
     let s = v .before .before .before .before .before in
     let a = s .args in
-    free-none (a .setup) (a .rec) (a .store .now) (a .lens .now) (a .rows .now) (facts (s .pre)) (a .request-id) _ (v .victim .ensures .1) (c .if1 .taken)
+    free-none (a .setup) (a .rec) (a .store .now) (a .lens .now) (a .rows .now) (facts (s .pre)) (a .request-id) _
+    (v .victim .ensures .1) (c .if1 .taken)
 
 tc-info-requires : tie.Need-tc-info-requires
 tc-info-requires c κs =
@@ -56,7 +57,8 @@ returns-2 c =
     let s = v .before .before .before .before .before in
     let a = s .args in
     rw (c .freed .ensures)
-    (free-done (a .setup) (a .rec) (a .store .now) (a .lens .now) (a .rows .now) (facts (s .pre)) (a .request-id) _ (v .victim .ensures .1) (e .if1 .left) _ _ _ _ _ _
+    (free-done (a .setup) (a .rec) (a .store .now) (a .lens .now) (a .rows .now) (facts (s .pre)) (a .request-id) _
+    (v .victim .ensures .1) (e .if1 .left) _ _ _ _ _ _
     (i .tc-info .ensures .1) (x .delete .ensures .answer) (x .delete .ensures .lists) (c .before .with-count .ensures) (m .remove .ensures))
 
 pub delete-by-request-id-and-from-pool-spec : {M : Type 1} → statement M

@@ -19,10 +19,12 @@ remove-requires c κs =
 
 returns : tie.Need-returns
 returns c =
-    let s = c .before .before .before .before .before .before .before .before .before .before .before .before .before .before .before .before .before in
+    let s = c .before .before .before .before .before .before .before .before .before .before .before .before .before .before .before
+    .before .before in
     let a = s .args in
     clear-done (a .setup) (a .rec) (a .store .now) (a .lens .now) (a .rows .now) (a .part) (a .enabled) _ _ _ _ _ (s .pre .1)
-    (c .before .before .before .before .before .before .before .before .before .sweep .ensures) (c .before .before .before .remove .ensures) (c .left .ensures)
+    (c .before .before .before .before .before .before .before .before .before .sweep .ensures)
+    (c .before .before .before .remove .ensures) (c .left .ensures)
 
 pub clear-spec : {M : Type 1} → statement M
 clear-spec =

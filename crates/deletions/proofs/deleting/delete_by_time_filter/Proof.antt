@@ -33,7 +33,8 @@ returns-2 c =
     let o = c .before .before .before .before .before .before .before .before .before .before .before .before .before .before .before in
     let s = o .before .before .before .before in
     let a = s .args in
-    window-done (a .setup) (a .rec) (a .store .now) (a .lens .now) (a .rows .now) (a .w) _ (o .open .ensures) _ _ _ _ _ _ _ (c .before .before .before .before .before .before .before .before .before .before .before .before .before .o2 .given .1)
+    window-done (a .setup) (a .rec) (a .store .now) (a .lens .now) (a .rows .now) (a .w) _ (o .open .ensures) _ _ _ _ _ _ _
+    (c .before .before .before .before .before .before .before .before .before .before .before .before .before .o2 .given .1)
     (facts (s .pre) .kept) (p .ensures .row) (p .ensures .many) (c .before .before .before .before .before .before .clear .ensures)
 
 pub delete-by-time-filter-spec : {M : Type 1} → statement M

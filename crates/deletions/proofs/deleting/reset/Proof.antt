@@ -12,7 +12,8 @@ clear-requires c κs = (c .before .before .before .before .before .before .pre, 
 returns : tie.Need-returns
 returns c =
     let a = c .before .before .before .before .before .before .before .before .before .before .before .before .before .args in
-    reset-done (a .setup) (a .rec) (a .store .now) (a .lens .now) (a .rows .now) _ _ _ _ _ (c .before .before .before .before .before .before .clear .ensures)
+    reset-done (a .setup) (a .rec) (a .store .now) (a .lens .now) (a .rows .now) _ _ _ _ _
+    (c .before .before .before .before .before .before .clear .ensures)
 
 pub reset-spec : {M : Type 1} → statement M
 reset-spec = tie.close (tie.spec clear-requires (λ c. search needs) (λ c. search needs) (λ c. search needs) returns)

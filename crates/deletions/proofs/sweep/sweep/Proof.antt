@@ -33,7 +33,13 @@ delete-requires c κs = c .before .before .before .before .loop .inv .2 .sound
 one-more-requires : tie.Need-one-more-requires Inv-loop μ-loop
 one-more-requires c κs =
     let s = c .before .before .before .before .before .before .before .before .before .before .before .before .before .before .pre .1 in
-    omega (arith, c .before .before .before .before .before .before .before .before .before .loop .inv .2 .few, c .before .before .before .before .before .before .before .before .loop-test .taken, s .1, s .0 .few)
+    omega (
+      arith,
+      c .before .before .before .before .before .before .before .before .before .loop .inv .2 .few,
+      c .before .before .before .before .before .before .before .before .loop-test .taken,
+      s .1,
+      s .0 .few,
+    )
 
 add-i : tie.Need-add-i Inv-loop μ-loop
 add-i c = search needs
@@ -42,8 +48,13 @@ loop-again : tie.Need-loop-again Inv-loop μ-loop
 loop-again c = (
   search needs,
   search needs,
-  going-next _ _ _ _ _ _ _ _ _ _ _ (c .before .before .before .before .before .before .before .before .before .before .loop .inv .2) (c .before .before .before .before .before .before .before .before .before .loop-test .taken) (c .before .before .before .before .before .before .before .before .before .before .before .before .before .before .before .pre .1 .1) _ _ _ _ _
-      (c .before .before .before .before .before .before .before .before .tc-info .ensures .1) (c .before .before .before .before .before .delete .ensures) (c .one-more .ensures),
+  going-next _ _ _ _ _ _ _ _ _ _ _
+      (c .before .before .before .before .before .before .before .before .before .before .loop .inv .2)
+      (c .before .before .before .before .before .before .before .before .before .loop-test .taken)
+      (c .before .before .before .before .before .before .before .before .before .before .before .before .before .before .before
+      .pre .1 .1) _ _ _ _ _
+      (c .before .before .before .before .before .before .before .before .tc-info .ensures .1)
+      (c .before .before .before .before .before .delete .ensures) (c .one-more .ensures),
 )
 
 returns : tie.Need-returns Inv-loop μ-loop

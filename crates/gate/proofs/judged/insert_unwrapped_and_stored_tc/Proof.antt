@@ -71,7 +71,9 @@ returns-3 c =
     let h = gate-fine (a .setup) (a .rec) (a .release) _ (g .gate .ensures) (t .enum-told .given .1) in
     stored-done (a .setup) (a .rec) (a .store .now) (a .lens .now) (a .rows .now) (a .release) (a .request-id) (a .addr) _ _ (timely e) (h .0) (h .1)
     (c .with-count .ensures)
-    (c .before .before .before .insert .ensures ∙ ap (λ (x : Moment). afterInsert (a .rows .now) (a .rec .count) (entryOf x (a .request-id) (a .addr))) (m .to-moment .ensures))
+    (c .before .before .before .insert .ensures
+    ∙ ap (λ (x : Moment). afterInsert (a .rows .now) (a .rec .count) (entryOf x (a .request-id) (a .addr)))
+    (m .to-moment .ensures))
 
 pub insert-unwrapped-and-stored-tc-spec : {M : Type 1} → statement M
 insert-unwrapped-and-stored-tc-spec =

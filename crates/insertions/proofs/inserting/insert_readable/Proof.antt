@@ -38,8 +38,14 @@ refuse-unstored-requires c κs =
 store-and-enter-requires : tie.Need-store-and-enter-requires
 store-and-enter-requires c κs =
     let g = c .before .before .before .before .before in
-    let s = g .before .before .before .before .before .before .before .before .before in
-    (s .pre .0, (s .pre .1, gate-fine (s .args .setup) (s .args .rec) (s .args .release) _ (g .gate .ensures) (c .before .before .before .enum-told .given .1)))
+    let s = g .before .before .before .before .before .before .before .before .before in (
+      s .pre .0,
+      (
+        s .pre .1,
+        gate-fine (s .args .setup) (s .args .rec) (s .args .release) _ (g .gate .ensures)
+            (c .before .before .before .enum-told .given .1),
+      ),
+    )
 
 returns-2 : tie.Need-returns-2
 returns-2 c =
@@ -50,7 +56,8 @@ returns-2 c =
     let a = e .before .before .before .before .before .before .args in
     let p = u .refuse-unstored .ensures in
     rw (p .1, p .2, p .3)
-    (does-blocked (a .setup) (a .rec) (a .store .now) (a .lens .now) (a .rows .now) (a .release) (a .tc .now) (a .h) (plain e) _ _ _ (g .gate .ensures)
+    (does-blocked (a .setup) (a .rec) (a .store .now) (a .lens .now) (a .rows .now) (a .release) (a .tc .now) (a .h) (plain e) _ _
+    _ (g .gate .ensures)
     (k .g .given .1) (p .0))
 
 returns-3 : tie.Need-returns-3

@@ -35,7 +35,8 @@ returns-2 c =
     let x = c .before .before .before .before .before .before in
     let e = x .before .before .before .before in
     let a = e .before .before .before .before .before .before .args in
-    unwrapped-timed (a .setup) (a .rec) (a .store .now) (a .lens .now) (a .rows .now) (a .release) (a .tc .now) _ _ _ _ _ (timely e) (x .insert-tc .ensures)
+    unwrapped-timed (a .setup) (a .rec) (a .store .now) (a .lens .now) (a .rows .now) (a .release) (a .tc .now) _ _ _ _ _
+    (timely e) (x .insert-tc .ensures)
 
 pub insert-unwrapped-tc-spec : {M : Type 1} → statement M
 insert-unwrapped-tc-spec =

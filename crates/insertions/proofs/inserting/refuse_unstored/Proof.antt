@@ -9,4 +9,7 @@ returns : tie.Need-returns
 returns c = search (needs, answers-first)
 
 pub refuse-unstored-spec : {M : Type 1} → statement M
-refuse-unstored-spec = tie.close (tie.spec (λ c κs. search needs) (λ c κs. search needs) (λ c κs. search needs) (λ c. search needs) (λ c. search needs) returns)
+refuse-unstored-spec =
+    tie.close
+    (tie.spec (λ c κs. search needs) (λ c κs. search needs) (λ c κs. search needs) (λ c. search needs) (λ c. search needs)
+    returns)

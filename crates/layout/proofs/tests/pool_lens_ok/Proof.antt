@@ -17,10 +17,23 @@ loop-holds : tie.Need-loop-holds Inv-loop μ-loop
 loop-holds c = (omega arith, count-first _ _)
 
 add-faults : tie.Need-add-faults Inv-loop μ-loop
-add-faults c = omega (arith, c .before .before .before .loop .inv .1 .few, c .over .ensures, fault-few (rowOk (c .before .before .before .before .before .args .lens .now) (c .before .before .before .before .before .args .base) (c .before .before .before .before .before .args .size) (c .before .before .before .loop .s)))
+add-faults c =
+    omega (
+      arith,
+      c .before .before .before .loop .inv .1 .few,
+      c .over .ensures,
+      fault-few
+          (rowOk (c .before .before .before .before .before .args .lens .now)
+          (c .before .before .before .before .before .args .base) (c .before .before .before .before .before .args .size)
+          (c .before .before .before .loop .s)),
+    )
 
 loop-again : tie.Need-loop-again Inv-loop μ-loop
-loop-again c = (omega arith, count-next _ _ (c .before .before .before .loop .s) (c .before .before .before .loop .faults) (c .over .result) (omega arith) (c .before .before .before .loop .inv .1) (c .over .ensures))
+loop-again c = (
+  omega arith,
+  count-next _ _ (c .before .before .before .loop .s) (c .before .before .before .loop .faults) (c .over .result) (omega arith)
+      (c .before .before .before .loop .inv .1) (c .over .ensures),
+)
 
 returns : tie.Need-returns Inv-loop μ-loop
 returns c = count-last _ _ (c .before .loop .s) (c .before .loop .faults) (omega arith) (c .before .loop .inv .1)

@@ -22,10 +22,21 @@ loop-holds : tie.Need-loop-holds Inv-loop μ-loop
 loop-holds c = (omega arith, last-none _, below-none _)
 
 returns : tie.Need-returns Inv-loop μ-loop
-returns c = all-stop _ _ (c .before .before .before .before .before .loop .k) (search needs) (pool-test _ _ _ _ _ _ _ (c .before .before .before .before .before .loop .inv .1) (c .before .before .before .size-at .ensures .0) (c .before .before .slots-at .ensures .0) (c .before .pool-ok .ensures) (not-true _ (c .if1 .taken)))
+returns c =
+    all-stop _ _ (c .before .before .before .before .before .loop .k) (search needs)
+    (pool-test _ _ _ _ _ _ _ (c .before .before .before .before .before .loop .inv .1)
+    (c .before .before .before .size-at .ensures .0) (c .before .before .slots-at .ensures .0) (c .before .pool-ok .ensures)
+    (not-true _ (c .if1 .taken)))
 
 loop-again : tie.Need-loop-again Inv-loop μ-loop
-loop-again c = (omega arith, c .before .before .before .size-at .ensures .0 ∙ last-more _ _, below-more _ _ (c .before .before .before .before .before .loop .inv .2) (pool-test _ _ _ _ _ _ _ (c .before .before .before .before .before .loop .inv .1) (c .before .before .before .size-at .ensures .0) (c .before .before .slots-at .ensures .0) (c .before .pool-ok .ensures) (not-false _ (c .if1 .left))))
+loop-again c = (
+  omega arith,
+  c .before .before .before .size-at .ensures .0 ∙ last-more _ _,
+  below-more _ _ (c .before .before .before .before .before .loop .inv .2)
+      (pool-test _ _ _ _ _ _ _ (c .before .before .before .before .before .loop .inv .1)
+      (c .before .before .before .size-at .ensures .0) (c .before .before .slots-at .ensures .0) (c .before .pool-ok .ensures)
+      (not-false _ (c .if1 .left))),
+)
 
 returns-2 : tie.Need-returns-2 Inv-loop μ-loop
 returns-2 c = all-end _ _ _ (c .loop-test .left) (c .before .loop .inv .2)

@@ -19,7 +19,8 @@ unfolding takenPaper
 returns c =
     let j = c .before .before .before in
     let a = j .before .before .before .before .before .args in
-    writes-refused (a .setup) (a .rec) (a .store .now) (a .lens .now) (a .rows .now) (deleteKeepingIn (a .request-id)) _ _ (j .judge .ensures) (c .before .j .given .1)
+    writes-refused (a .setup) (a .rec) (a .store .now) (a .lens .now) (a .rows .now) (deleteKeepingIn (a .request-id)) _ _
+    (j .judge .ensures) (c .before .j .given .1)
 
 returns-2 : tie.Need-returns-2
 returns-2 c =

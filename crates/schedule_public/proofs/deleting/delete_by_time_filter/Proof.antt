@@ -27,7 +27,8 @@ returns-2 c =
     let j = c .before .before .before .before .before .before .before .before .before .before .before .before in
     let a = j .before .before .before .before .before .before .before .args in
     writes (a .setup) (a .rec) (a .store .now) (a .lens .now) (a .rows .now) (deleteWindowIn (a .w)) _ _ _ _ _
-    (sound-by (a .setup) (a .rec) (a .store .now) (a .lens .now) (a .rows .now) _ (j .judge .ensures) (c .before .before .before .before .before .before .before .before .before .before .enum-told .given .1))
+    (sound-by (a .setup) (a .rec) (a .store .now) (a .lens .now) (a .rows .now) _ (j .judge .ensures)
+    (c .before .before .before .before .before .before .before .before .before .before .enum-told .given .1))
     (c .before .before .before .before .before .before .delete-by-time-filter .ensures)
 
 pub delete-by-time-filter-spec : {M : Type 1} → statement M

@@ -24,7 +24,9 @@ returns c =
     let j = c .before .before .before in
     let a = j .before .before .before .before .args in
     ap says
-    (sym (judging-refused (a .setup) (a .rec) (a .store .now) (a .lens .now) (a .rows .now) (retrieveIn (a .w)) _ _ (j .judge .ensures) (c .before .j .given .1)))
+    (sym
+    (judging-refused (a .setup) (a .rec) (a .store .now) (a .lens .now) (a .rows .now) (retrieveIn (a .w)) _ _
+    (j .judge .ensures) (c .before .j .given .1)))
 
 returns-2 : tie.Need-returns-2
 unfolding stateOf

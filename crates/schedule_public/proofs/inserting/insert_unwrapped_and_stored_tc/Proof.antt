@@ -19,7 +19,8 @@ unfolding donePaper
 returns c =
     let j = c .before .before .before in
     let a = j .before .before .before .before .before .args in
-    writes-refused (a .setup) (a .rec) (a .store .now) (a .lens .now) (a .rows .now) (insertStoredIn (a .setup) (a .release) (a .request-id) (a .addr)) _ _
+    writes-refused (a .setup) (a .rec) (a .store .now) (a .lens .now) (a .rows .now)
+    (insertStoredIn (a .setup) (a .release) (a .request-id) (a .addr)) _ _
     (j .judge .ensures) (c .before .j .given .1)
 
 returns-2 : tie.Need-returns-2
@@ -27,7 +28,8 @@ returns-2 c =
     let t = c .before .before .before .before in
     let j = t .before .before in
     let a = j .before .before .before .before .before .args in
-    writes (a .setup) (a .rec) (a .store .now) (a .lens .now) (a .rows .now) (insertStoredIn (a .setup) (a .release) (a .request-id) (a .addr)) _ _ _ _ _
+    writes (a .setup) (a .rec) (a .store .now) (a .lens .now) (a .rows .now)
+    (insertStoredIn (a .setup) (a .release) (a .request-id) (a .addr)) _ _ _ _ _
     (sound-by (a .setup) (a .rec) (a .store .now) (a .lens .now) (a .rows .now) _ (j .judge .ensures) (t .enum-told .given .1))
     (c .before .before .insert-unwrapped-and-stored-tc .ensures)
 

@@ -22,7 +22,8 @@ returns c =
     let j = k .before .before in
     let a = j .before .before .before .before .before .before .before .before .args in
     rw (c .refuse .ensures .0, c .refuse .ensures .1)
-    (writes-refused (a .setup) (a .rec) (a .store .now) (a .lens .now) (a .rows .now) (insertUnwrappedIn (a .setup) (a .release) (a .tc .now)) _ _ (j .judge .ensures) (k .j .given .1))
+    (writes-refused (a .setup) (a .rec) (a .store .now) (a .lens .now) (a .rows .now)
+    (insertUnwrappedIn (a .setup) (a .release) (a .tc .now)) _ _ (j .judge .ensures) (k .j .given .1))
 
 returns-2 : tie.Need-returns-2
 returns-2 c =

@@ -13,8 +13,11 @@ returns c =
 
 returns-2 : tie.Need-returns-2
 returns-2 c =
-    let a = c .before .before .before .before .args in
-    (omega arith, victim-some (a .id) (a .count) (a .rows .now) _ _ (c .before .before .first-match .ensures .1) (omega arith) (c .last-match .ensures .1))
+    let a = c .before .before .before .before .args in (
+      omega arith,
+      victim-some (a .id) (a .count) (a .rows .now) _ _ (c .before .before .first-match .ensures .1) (omega arith)
+          (c .last-match .ensures .1),
+    )
 
 pub victim-spec : {M : Type 1} → statement M
 victim-spec = tie.close (tie.spec (λ c κs. search needs) returns (λ c κs. search needs) returns-2)

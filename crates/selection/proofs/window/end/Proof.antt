@@ -8,7 +8,10 @@ use Rattle.selection.proofs.window.end.Statement.{statement}
 use Rattle.selection.proofs.window.end.Tie as tie
 
 up-to-requires : tie.Need-up-to-requires
-up-to-requires c κs = (c .before .before .before .before .pre .0, ends-both _ _ _ (c .before .w .given .1) (c .before .before .before .before .pre .1) .1)
+up-to-requires c κs = (
+  c .before .before .before .before .pre .0,
+  ends-both _ _ _ (c .before .w .given .1) (c .before .before .before .before .pre .1) .1,
+)
 
 up-to-requires-2 : tie.Need-up-to-requires-2
 up-to-requires-2 c κs = (c .before .before .before .before .pre .0, ends-to _ _ (c .before .w2 .given .1) (c .before .before .before .before .pre .1))

@@ -9,7 +9,8 @@ returns : tie.Need-returns
 returns c =
     let s = c .before .before .before .before in
     let a = s .args in
-    retrieves-none (a .count) (a .rows .now) (s .pre .0 .kept) (a .w) _ _ (c .before .before .start .ensures) (c .before .end .ensures) (c .if1 .taken)
+    retrieves-none (a .count) (a .rows .now) (s .pre .0 .kept) (a .w) _ _ (c .before .before .start .ensures)
+    (c .before .end .ensures) (c .if1 .taken)
 
 returns-2 : tie.Need-returns-2
 returns-2 c =

@@ -7,10 +7,16 @@ use Rattle.selection.proofs.window.start.Statement.{statement}
 use Rattle.selection.proofs.window.start.Tie as tie
 
 below-requires : tie.Need-below-requires
-below-requires c κs = (c .before .before .before .before .pre .0, ends-both _ _ _ (c .before .w .given .1) (c .before .before .before .before .pre .1) .0)
+below-requires c κs = (
+  c .before .before .before .before .pre .0,
+  ends-both _ _ _ (c .before .w .given .1) (c .before .before .before .before .pre .1) .0,
+)
 
 below-requires-2 : tie.Need-below-requires-2
-below-requires-2 c κs = (c .before .before .before .before .pre .0, ends-from _ _ (c .before .w2 .given .1) (c .before .before .before .before .pre .1))
+below-requires-2 c κs = (
+  c .before .before .before .before .pre .0,
+  ends-from _ _ (c .before .w2 .given .1) (c .before .before .before .before .pre .1),
+)
 
 returns : tie.Need-returns
 returns c = start-all _ _ (c .enum-told .given .1)

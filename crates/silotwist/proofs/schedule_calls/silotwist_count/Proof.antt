@@ -19,7 +19,9 @@ short-requires c κs = c .before .before .before .if1 .left
 returns-2 : tie.Need-returns-2
 returns-2 c =
     let a = c .before .before .before .before .before .before .before .before .before .before .before .before .before .args in
-    looks-short (a .answer .now) (a .setup .now) (a .«record» .now) (a .store .now) (a .lens .now) (a .rows .now) (λ su. countIn) _ _ _ _ (c .before .before .before .before .before .before .if1 .left) (c .before .before .before .before .before .setup .ensures)
+    looks-short (a .answer .now) (a .setup .now) (a .«record» .now) (a .store .now) (a .lens .now) (a .rows .now) (λ su. countIn)
+    _ _ _ _ (c .before .before .before .before .before .before .if1 .left)
+    (c .before .before .before .before .before .setup .ensures)
     (c .before .before .before .before .if2 .taken) refl (c .before .before .short .ensures .0) (c .before .before .short .ensures .1)
 
 put-requires : tie.Need-put-requires

@@ -19,7 +19,9 @@ short-requires c κs = c .before .before .before .if1 .left
 returns-2 : tie.Need-returns-2
 returns-2 c =
     let a = c .before .before .before .before .before .before .before .before .before .before .before .before .before .args in
-    starts-short (a .answer .now) (a .setup .now) (a .«record» .now) (a .store .now) (a .lens .now) (a .rows .now) (record { secs = a .clock-secs; nanos = a .clock-nanos }) (record { secs = a .margin-secs; nanos = a .margin-nanos }) _ _ _ _ (c .before .before .before .before .before .before .if1 .left) (c .before .before .before .before .before .setup .ensures)
+    starts-short (a .answer .now) (a .setup .now) (a .«record» .now) (a .store .now) (a .lens .now) (a .rows .now)
+    (record { secs = a .clock-secs; nanos = a .clock-nanos }) (record { secs = a .margin-secs; nanos = a .margin-nanos }) _ _ _
+    _ (c .before .before .before .before .before .before .if1 .left) (c .before .before .before .before .before .setup .ensures)
     (c .before .before .before .before .if2 .taken) refl (c .before .before .short .ensures .0) (c .before .before .short .ensures .1)
 
 with-all-requires : tie.Need-with-all-requires

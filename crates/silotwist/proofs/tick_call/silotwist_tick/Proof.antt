@@ -19,12 +19,15 @@ short-requires c κs = c .before .before .before .if1 .left
 returns-2 : tie.Need-returns-2
 returns-2 c =
     let a = c .before .before .before .before .before .before .before .before .before .before .before .before .before .before .args in
-    ticks-short (a .answer .now) (a .setup .now) (a .«record» .now) (a .store .now) (a .lens .now) (a .rows .now) (λ su. tickIn (a .limit) (a .delete-packets) (a .log .now)) (a .log .now) _ _ _ _ (c .before .before .before .before .before .before .if1 .left) (c .before .before .before .before .before .setup .ensures)
+    ticks-short (a .answer .now) (a .setup .now) (a .«record» .now) (a .store .now) (a .lens .now) (a .rows .now)
+    (λ su. tickIn (a .limit) (a .delete-packets) (a .log .now)) (a .log .now) _ _ _ _
+    (c .before .before .before .before .before .before .if1 .left) (c .before .before .before .before .before .setup .ensures)
     (c .before .before .before .before .if2 .taken) refl (c .before .before .short .ensures .0) (c .before .before .short .ensures .1)
 
 with-count-requires : tie.Need-with-count-requires
 with-count-requires c κs =
-    let p = c .before .before .before .before .before .before .before .before .before .before .before .before .before .before .before .before .before .before in
+    let p = c .before .before .before .before .before .before .before .before .before .before .before .before .before .before .before
+    .before .before .before in
     (p .if2 .left, p .before .before .if1 .left)
 
 returns-3 : tie.Need-returns-3

@@ -18,7 +18,15 @@ abbrev μ-loop : tie.MeasureT-loop
 μ-loop part₀ packet n i₀ part i = n - i
 
 loop-again : tie.Need-loop-again Inv-loop μ-loop
-loop-again c = (omega arith, simp length-set (c .before .before .loop .inv .1), ap (λ (l : List ℕ). set l (c .before .before .loop .i) (getD (c .before .before .before .args .packet .now) (c .before .before .loop .i) 0)) (c .before .before .loop .inv .2) ∙ front-more (c .before .before .loop .i) (c .before .before .before .args .packet .now) (c .before .before .before .args .part .now) (search needs) (omega arith))
+loop-again c = (
+  omega arith,
+  simp length-set (c .before .before .loop .inv .1),
+  ap
+      (λ (l : List ℕ). set l (c .before .before .loop .i)
+      (getD (c .before .before .before .args .packet .now) (c .before .before .loop .i) 0)) (c .before .before .loop .inv .2)
+      ∙ front-more (c .before .before .loop .i) (c .before .before .before .args .packet .now)
+      (c .before .before .before .args .part .now) (search needs) (omega arith),
+)
 
 same-length : tie.Need-same-length Inv-loop μ-loop
 same-length c = c .before .loop .inv .1

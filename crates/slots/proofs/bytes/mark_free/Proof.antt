@@ -20,7 +20,11 @@ abbrev μ-loop : tie.MeasureT-loop
 μ-loop part₀ n i₀ part i = n - i
 
 loop-again : tie.Need-loop-again Inv-loop μ-loop
-loop-again c = (omega arith, simp length-set (c .before .loop .inv .1), ap (λ (l : List ℕ). set l (c .before .loop .i) storeFree) (c .before .loop .inv .2) ∙ fill-more _ _ _ (c .loop-test .taken))
+loop-again c = (
+  omega arith,
+  simp length-set (c .before .loop .inv .1),
+  ap (λ (l : List ℕ). set l (c .before .loop .i) storeFree) (c .before .loop .inv .2) ∙ fill-more _ _ _ (c .loop-test .taken),
+)
 
 same-length : tie.Need-same-length Inv-loop μ-loop
 same-length c = c .before .loop .inv .1

@@ -21,10 +21,15 @@ loop-holds : tie.Need-loop-holds Inv-loop μ-loop
 loop-holds c = (omega arith, below-none _)
 
 returns : tie.Need-returns Inv-loop μ-loop
-returns c = first-stop _ _ _ (search needs) (c .before .before .before .loop .inv .1) (rw (c .before .size-at .ensures .0) at (le-leb _ _ (c .if1 .taken)))
+returns c =
+    first-stop _ _ _ (search needs) (c .before .before .before .loop .inv .1)
+    (rw (c .before .size-at .ensures .0) at (le-leb _ _ (c .if1 .taken)))
 
 loop-again : tie.Need-loop-again Inv-loop μ-loop
-loop-again c = (omega arith, below-more _ _ (c .before .before .before .loop .inv .1) (rw (c .before .size-at .ensures .0) at (lt-leb _ _ (c .if1 .left))))
+loop-again c = (
+  omega arith,
+  below-more _ _ (c .before .before .before .loop .inv .1) (rw (c .before .size-at .ensures .0) at (lt-leb _ _ (c .if1 .left))),
+)
 
 returns-2 : tie.Need-returns-2 Inv-loop μ-loop
 returns-2 c = first-end _ _ _ (c .loop-test .left) (c .before .loop .inv .1)

@@ -7,19 +7,37 @@ use Rattle.slots.proofs.search.locate.Statement.{statement}
 use Rattle.slots.proofs.search.locate.Tie as tie
 
 mul-if1 : tie.Need-mul-if1
-mul-if1 c = let h = row-inside _ (c .before .before .before .before .before .before .args .lens .now) _ _ _ (c .before .before .before .before .before .before .pre .1) (sym (c .before .before .before .validate .ensures) ∙ c .before .spot2 .given .1) in omega (arith, h)
+mul-if1 c =
+    let h = row-inside _ (c .before .before .before .before .before .before .args .lens .now) _ _ _
+    (c .before .before .before .before .before .before .pre .1)
+    (sym (c .before .before .before .validate .ensures) ∙ c .before .spot2 .given .1) in
+    omega (arith, h)
 
 shared-slice-read-if1 : tie.Need-shared-slice-read-if1
-shared-slice-read-if1 c = row-inside _ (c .before .before .before .before .before .before .before .args .lens .now) _ _ _ (c .before .before .before .before .before .before .before .pre .1) (sym (c .before .before .before .before .validate .ensures) ∙ c .before .before .spot2 .given .1)
+shared-slice-read-if1 c =
+    row-inside _ (c .before .before .before .before .before .before .before .args .lens .now) _ _ _
+    (c .before .before .before .before .before .before .before .pre .1)
+    (sym (c .before .before .before .before .validate .ensures) ∙ c .before .before .spot2 .given .1)
 
 returns : tie.Need-returns
-returns c = λ st. found-vacant _ st _ _ _ _ (c .before .before .before .before .before .before .before .decode .ensures .0) (c .before .before .before .before .before .before .before .decode .ensures .1) _ _ (c .encode .ensures) (sym (c .before .before .before .before .before .before .validate .ensures) ∙ c .before .before .before .before .spot2 .given .1) (c .before .if1 .taken)
+returns c =
+    λ st. found-vacant _ st _ _ _ _ (c .before .before .before .before .before .before .before .decode .ensures .0)
+    (c .before .before .before .before .before .before .before .decode .ensures .1) _ _ (c .encode .ensures)
+    (sym (c .before .before .before .before .before .before .validate .ensures)
+    ∙ c .before .before .before .before .spot2 .given .1) (c .before .if1 .taken)
 
 returns-2 : tie.Need-returns-2
-returns-2 c = λ st. found-invalid _ st _ _ _ _ (c .before .before .before .before .decode .ensures .0) (c .before .before .before .before .decode .ensures .1) _ (sym (c .before .before .before .validate .ensures) ∙ c .before .spot .given .1)
+returns-2 c =
+    λ st. found-invalid _ st _ _ _ _ (c .before .before .before .before .decode .ensures .0)
+    (c .before .before .before .before .decode .ensures .1) _
+    (sym (c .before .before .before .validate .ensures) ∙ c .before .spot .given .1)
 
 returns-3 : tie.Need-returns-3
-returns-3 c = λ st. found-held _ st _ _ _ _ (c .before .before .before .before .before .before .decode .ensures .0) (c .before .before .before .before .before .before .decode .ensures .1) _ (sym (c .before .before .before .before .before .validate .ensures) ∙ c .before .before .before .spot2 .given .1) (c .if1 .left)
+returns-3 c =
+    λ st. found-held _ st _ _ _ _ (c .before .before .before .before .before .before .decode .ensures .0)
+    (c .before .before .before .before .before .before .decode .ensures .1) _
+    (sym (c .before .before .before .before .before .validate .ensures) ∙ c .before .before .before .spot2 .given .1)
+    (c .if1 .left)
 
 pub locate-spec : {M : Type 1} → statement M
 locate-spec =

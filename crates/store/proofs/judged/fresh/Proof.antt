@@ -23,8 +23,13 @@ part-mark-free-end c = let w = sized-fits (c .before .before .before .before .be
 returns : tie.Need-returns
 returns c = let w = sized-fits (c .before .before .before .before .before .before .before .before .before .before .before .before .pre) in
     fresh-leaves _ _ _ (c .before .before .before .before .before .before .before .before .before .before .before .before .pre) _ _
-    (front-back _ _ _ _ _ (c .before .before .before .before .before .before .before .before .before .bytes-before .ensures .0) (c .before .before .before .before .before .before .zero-fill .ensures ∙ front-filled _ _ _ _ (c .before .before .before .before .before .before .before .before .before .bytes-before .ensures .0) (w .1)))
-    (front-back _ _ _ _ _ (c .before .before .before .before .before .before .before .before .rows-before .ensures .0) (c .before .before .mark-free .ensures ∙ front-filled _ _ _ _ (c .before .before .before .before .before .before .before .before .rows-before .ensures .0) (w .2)))
+    (front-back _ _ _ _ _ (c .before .before .before .before .before .before .before .before .before .bytes-before .ensures .0)
+    (c .before .before .before .before .before .before .zero-fill .ensures
+    ∙ front-filled _ _ _ _
+    (c .before .before .before .before .before .before .before .before .before .bytes-before .ensures .0) (w .1)))
+    (front-back _ _ _ _ _ (c .before .before .before .before .before .before .before .before .rows-before .ensures .0)
+    (c .before .before .mark-free .ensures
+    ∙ front-filled _ _ _ _ (c .before .before .before .before .before .before .before .before .rows-before .ensures .0) (w .2)))
 
 pub fresh-spec : {M : Type 1} → statement M
 fresh-spec =

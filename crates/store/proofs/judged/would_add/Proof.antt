@@ -16,7 +16,8 @@ choose-requires c κs =
 
 found : (c : tie.After-spot2)
     → Room (c .before .before .before .before .before .before .args .setup) (c .before .before .before .before .before .before .args .store .now)
-    (c .before .before .before .before .before .before .args .lens .now) (length (c .before .before .before .before .before .before .args .packet .now))
+    (c .before .before .before .before .before .before .args .lens .now)
+    (length (c .before .before .before .before .before .before .args .packet .now))
     (c .spot2 .given .0 .0)
 found c =
     let s = c .before .before .before .before .before .before in
@@ -40,7 +41,8 @@ returns-2 : tie.Need-returns-2
 returns-2 c =
     let p = c .before .before .before .before in
     let s = p .before .before .before .before .before .before in
-    add-says (s .args .setup) (s .args .store .now) (s .args .lens .now) (s .args .packet .now) (p .spot2 .given .0 .0) (found p) _ (c .encode .ensures)
+    add-says (s .args .setup) (s .args .store .now) (s .args .lens .now) (s .args .packet .now) (p .spot2 .given .0 .0) (found p)
+    _ (c .encode .ensures)
 
 pub would-add-spec : {M : Type 1} → statement M
 would-add-spec =

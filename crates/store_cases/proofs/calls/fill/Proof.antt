@@ -3,7 +3,6 @@ use mathlib.Core.Path.{_≡_}
 use lib.ListN.{length}
 use Prim.Native.Nat.{_-_, _≤_}
 use borrow.Author.Needs.{needs}
-use native.Mathlib.Omega.{arith}
 use Rattle.store_cases.proofs.calls.fill.Statement.{statement}
 use Rattle.store_cases.proofs.calls.fill.Tie as tie
 

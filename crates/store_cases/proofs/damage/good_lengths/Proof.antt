@@ -1,7 +1,6 @@
 -- `store_cases::damage::good_lengths` meets its contract.
 use Prim.Native.Nat.{_-_, _≤_}
 use borrow.Author.Needs.{needs}
-use native.Mathlib.Omega.{arith}
 use Rattle.store_cases.proofs.damage.good_lengths.Statement.{statement}
 use Rattle.store_cases.proofs.damage.good_lengths.Tie as tie
 

@@ -20,8 +20,11 @@ loop-holds : tie.Need-loop-holds Inv-loop μ-loop
 loop-holds c = (search needs, down-start _ _ _, refl)
 
 loop-again : tie.Need-loop-again Inv-loop μ-loop
-loop-again c =
-    (search needs, rw (c .before .before .loop .inv .1) (down-step _ _ _ _ (omega arith) (omega arith)), simp length-set (c .before .before .loop .inv .2))
+loop-again c = (
+  search needs,
+  rw (c .before .before .loop .inv .1) (down-step _ _ _ _ (omega arith) (omega arith)),
+  simp length-set (c .before .before .loop .inv .2),
+)
 
 same-length : tie.Need-same-length Inv-loop μ-loop
 same-length c = c .before .loop .inv .2

@@ -16,18 +16,34 @@ to-moment-requires c κs = clock-ok (c .before .before .before .before .before .
 
 -- src/judged.rt:43:9
 up-to-requires : tie.Need-up-to-requires
-up-to-requires c κs = (rows-ok (c .before .before .before .before .before .before .before .before .before .before .pre), moment-ok (c .before .before .before .before .before .before .before .before .before .before .pre) _ (c .to-moment .ensures))
+up-to-requires c κs = (
+  rows-ok (c .before .before .before .before .before .before .before .before .before .before .pre),
+  moment-ok (c .before .before .before .before .before .before .before .before .before .before .pre) _ (c .to-moment .ensures),
+)
 
 -- src/judged.rt:45:9
 lacking-requires : tie.Need-lacking-requires
-lacking-requires c κs = (store-ok (c .before .before .before .before .before .before .before .before .before .before .before .before .before .before .before .pre), rows-held (c .before .before .before .before .before .before .before .before .before .before .before .before .before .before .before .pre))
+lacking-requires c κs = (
+  store-ok
+      (c .before .before .before .before .before .before .before .before .before .before .before .before .before .before .before
+      .pre),
+  rows-held
+      (c .before .before .before .before .before .before .before .before .before .before .before .before .before .before .before
+      .pre),
+)
 
 -- src/judged.rt:47:9
 returns-2 : tie.Need-returns-2
-returns-2 c = let a = c .before .before .before .before .before .before .before .before .before .before .before .before .before .before .before .before .before .before .args in
-    tick-lacks _ _ _ _ _ _ _ _ _ _ _ _ (c .before .before .before .before .before .before .before .before .before .before .before .before .before .if1 .left) (c .before .before .before .before .before .before .before .before .before .before .least .ensures)
-    (due-is (a .rec .clock) _ _ _ (c .before .before .before .before .before .before .before .before .to-moment .ensures) (c .before .before .before .before .before .before .before .up-to .ensures .1))
-    (c .before .before .before .before .before .before .least2 .ensures) (c .before .before .lacking .ensures) _ (c .refuse2 .ensures) (c .before .if2 .taken)
+returns-2 c =
+    let a = c .before .before .before .before .before .before .before .before .before .before .before .before .before .before .before
+    .before .before .before .args in
+    tick-lacks _ _ _ _ _ _ _ _ _ _ _ _
+    (c .before .before .before .before .before .before .before .before .before .before .before .before .before .if1 .left)
+    (c .before .before .before .before .before .before .before .before .before .before .least .ensures)
+    (due-is (a .rec .clock) _ _ _ (c .before .before .before .before .before .before .before .before .to-moment .ensures)
+    (c .before .before .before .before .before .before .before .up-to .ensures .1))
+    (c .before .before .before .before .before .before .least2 .ensures) (c .before .before .lacking .ensures) _
+    (c .refuse2 .ensures) (c .before .if2 .taken)
 
 -- src/judged.rt:49:9
 release-requires : tie.Need-release-requires
@@ -35,8 +51,16 @@ release-requires c κs =
     let n = c .before .before .before .before .before .before .before .before .before in
     let u = n .before in
     let l = u .before .before .before in
-    let p = l .before .before .before .before .before .before .before .before .pre in
-    (store-ok p, (rows-held p, (few-rows _ _ _ _ (u .up-to .ensures .0) (n .least2 .ensures), used-part _ _ (l .least .ensures) (l .before .before .before .if1 .left))))
+    let p = l .before .before .before .before .before .before .before .before .pre in (
+      store-ok p,
+      (
+        rows-held p,
+        (
+          few-rows _ _ _ _ (u .up-to .ensures .0) (n .least2 .ensures),
+          used-part _ _ (l .least .ensures) (l .before .before .before .if1 .left),
+        ),
+      ),
+    )
 
 -- src/judged.rt:50:16
 sub-rest : tie.Need-sub-rest
@@ -51,10 +75,28 @@ sub-remain c = omega (arith, c .before .before .before .before .before .before .
 
 -- src/judged.rt:20:1
 returns-3 : tie.Need-returns-3
-returns-3 c = let a = c .before .before .before .before .before .before .before .before .before .before .before .before .before .before .before .before .before .before .before .before .before .before .before .before .before .before .before .before .before .before .before .args in
-    tick-hands _ _ _ _ _ _ _ _ _ _ _ _ (c .before .before .before .before .before .before .before .before .before .before .before .before .before .before .before .before .before .before .before .before .before .before .before .before .before .before .if1 .left) (c .before .before .before .before .before .before .before .before .before .before .before .before .before .before .before .before .before .before .before .before .before .before .before .least .ensures)
-    (due-is (a .rec .clock) _ _ _ (c .before .before .before .before .before .before .before .before .before .before .before .before .before .before .before .before .before .before .before .before .before .to-moment .ensures) (c .before .before .before .before .before .before .before .before .before .before .before .before .before .before .before .before .before .before .before .before .up-to .ensures .1))
-    (c .before .before .before .before .before .before .before .before .before .before .before .before .before .before .before .before .before .before .before .least2 .ensures) (c .before .before .before .before .before .before .before .before .before .before .before .before .before .before .before .lacking .ensures) _ _ _ _ _ (c .before .before .before .before .before .before .before .before .before .before .before .before .before .before .if2 .left) (c .before .before .before .before .before .before .before .before .before .before .before .before .before .before .before .before .before .before .before .before .up-to .ensures .0)
+returns-3 c =
+    let a = c .before .before .before .before .before .before .before .before .before .before .before .before .before .before .before
+    .before .before .before .before .before .before .before .before .before .before .before .before .before .before .before
+    .before .args in
+    tick-hands _ _ _ _ _ _ _ _ _ _ _ _
+    (c .before .before .before .before .before .before .before .before .before .before .before .before .before .before .before
+    .before .before .before .before .before .before .before .before .before .before .before .if1 .left)
+    (c .before .before .before .before .before .before .before .before .before .before .before .before .before .before .before
+    .before .before .before .before .before .before .before .before .least .ensures)
+    (due-is (a .rec .clock) _ _ _
+    (c .before .before .before .before .before .before .before .before .before .before .before .before .before .before .before
+    .before .before .before .before .before .before .to-moment .ensures)
+    (c .before .before .before .before .before .before .before .before .before .before .before .before .before .before .before
+    .before .before .before .before .before .up-to .ensures .1))
+    (c .before .before .before .before .before .before .before .before .before .before .before .before .before .before .before
+    .before .before .before .before .least2 .ensures)
+    (c .before .before .before .before .before .before .before .before .before .before .before .before .before .before .before
+    .lacking .ensures) _ _ _ _ _
+    (c .before .before .before .before .before .before .before .before .before .before .before .before .before .before .if2
+    .left)
+    (c .before .before .before .before .before .before .before .before .before .before .before .before .before .before .before
+    .before .before .before .before .before .up-to .ensures .0)
     (c .before .before .before .before .before .before .before .before .before .release .ensures) _ (c .with-count .ensures)
 
 pub tick-spec : {M : Type 1} → statement M

@@ -1,7 +1,6 @@
 -- `vectors::codes::row` meets its contract.
 use Prim.Native.Nat.{_-_}
 use borrow.Author.Needs.{needs}
-use native.Mathlib.Omega.{arith}
 use Rattle.vectors.proofs.codes.row.Statement.{statement}
 use Rattle.vectors.proofs.codes.row.Tie as tie
 

@@ -1,6 +1,5 @@
 -- `vectors::packets::outer` meets its contract.
 use mathlib.Core.Path.{_∙_, sym}
-use native.Mathlib.Omega.{arith}
 use borrow.Author.Needs.{needs}
 use Rattle.vectors.proofs.packets.outer.Statement.{statement}
 use Rattle.vectors.proofs.packets.outer.Tie as tie

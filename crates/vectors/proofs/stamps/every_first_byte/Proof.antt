@@ -1,7 +1,6 @@
 -- `vectors::stamps::every_first_byte` meets its contract.
 use Prim.Native.Nat.{_-_}
 use borrow.Author.Needs.{needs}
-use native.Mathlib.Omega.{arith}
 use Rattle.vectors.proofs.stamps.every_first_byte.Statement.{statement}
 use Rattle.vectors.proofs.stamps.every_first_byte.Tie as tie
 

@@ -1,7 +1,6 @@
 -- `vectors::times::against` meets its contract.
 use mathlib.Core.Path.{_∙_, sym}
 use Rattle.time.proofs.Judged.{time-judged}
-use native.Mathlib.Omega.{arith}
 use borrow.Author.Needs.{needs}
 use Rattle.vectors.proofs.times.against.Statement.{statement}
 use Rattle.vectors.proofs.times.against.Tie as tie

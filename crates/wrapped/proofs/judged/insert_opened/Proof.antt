@@ -26,7 +26,8 @@ returns-2 c =
     let e = t .before .before in
     let a = e .before .before .before .before .before .before .args in
     rw (c .refuse2 .ensures .0, c .refuse2 .ensures .1)
-    (wrong-subservice (a .setup) (a .rec) (a .store .now) (a .lens .now) (a .rows .now) (userDataOf 2 (a .outer .now)) (a .h) (e .if1 .left) (t .if2 .taken))
+    (wrong-subservice (a .setup) (a .rec) (a .store .now) (a .lens .now) (a .rows .now) (userDataOf 2 (a .outer .now)) (a .h)
+    (e .if1 .left) (t .if2 .taken))
 
 user-data-requires : tie.Need-user-data-requires
 user-data-requires c κs =

@@ -53,7 +53,8 @@ returns-2 c =
     let h = x .before .before .before .before .before .before in
     let d = h .before .before in
     let a = d .before .before .before .before .before .args in
-    stamp-at (a .setup) (a .rec) (a .store .now) (a .lens .now) (a .rows .now) (a .«data» .now) _ _ (sym (d .read .ensures .same) ∙ h .s .given .1) _ _ _ _ _
+    stamp-at (a .setup) (a .rec) (a .store .now) (a .lens .now) (a .rows .now) (a .«data» .now) _ _
+    (sym (d .read .ensures .same) ∙ h .s .given .1) _ _ _ _ _
     (rw (rest (h .s .given .0 .1 .0) (a .«data» .now)) at (x .insert-tc .ensures))
 
 pub insert-stamped-spec : {M : Type 1} → statement M
