@@ -6,7 +6,7 @@ use Rattle.record.specs.declared.Record.{Record}
 use Rattle.rules.specs.Papers.{Outcome}
 use Rattle.schedule.specs.State.{State}
 use Rattle.schedule.specs.declared.Setup.{Setup}
-use Rattle.scheduler.proofs.OneOutcome.{one-outcome, one-start}
+use Rattle.scheduler.proofs.OneOutcome.{one-outcome}
 use Rattle.scheduler.proofs.Releasing.{one-tick}
 use Rattle.scheduler.specs.Laws.{Same}
 use Rattle.scheduler.specs.Steps.{Answer, Request, add, count, delete, deleteById, deleteKeeping, deleteWindow, disable, enable, hasElementAt, insertStored, insertUnwrapped, insertWrapped, lenOfData, modify, read, reset, retrieve, setClock, tick}
@@ -26,7 +26,7 @@ module _ (su : Setup) (t : Lent) (x y : Answer) (u v : Lent) where
 
   starts : (clock : UnixTime) (margin : Margin) → StartsOver su t x u clock margin → StartsOver su t y v clock margin → (x ≡ y) × (u ≡ v)
   starts clock margin c d =
-      let o = one-start su _ _ _ _ _ _ _ _ _ _ _ _ _ _ _ (c .tables) (d .tables) in
+      let o = one-outcome su _ _ _ _ _ _ _ _ _ _ _ _ _ _ _ (c .tables) (d .tables) in
       (answers (o .0) (c .buffer ∙ sym (d .buffer)), lents (o .1))
 
   changes : (call : State → Outcome State) → Changes su t x u call → Changes su t y v call → (x ≡ y) × (u ≡ v)

@@ -11,7 +11,7 @@ use Rattle.schedule.specs.Starting.{freshState, startIn}
 use Rattle.schedule.specs.State.{State, stateOf}
 use Rattle.schedule.specs.declared.Setup.{Setup}
 use Rattle.scheduler.proofs.Numbers.{Own, clock-numbered, judged-most, mark-numbered, own-add, own-by-id, own-count, own-delete, own-has, own-keeping, own-len, own-packet, own-read, own-reset, own-retrieve, own-stored, own-tick, own-unless, own-unwrapped, own-window, own-wrapped}
-use Rattle.scheduler.proofs.RefusalKeeps.{call-keeps, start-keeps}
+use Rattle.scheduler.proofs.RefusalKeeps.{call-keeps}
 use Rattle.scheduler.proofs.Releasing.{tick-keeps}
 use Rattle.scheduler.specs.Laws.{AnsweredOrRefused, Same}
 use Rattle.scheduler.specs.Steps.{Answer, Request, add, bufferOf, count, delete, deleteById, deleteKeeping, deleteWindow, disable, enable, hasElementAt, insertStored, insertUnwrapped, insertWrapped, lenOfData, modify, read, reset, retrieve, setClock, tick}
@@ -65,7 +65,7 @@ module _ (su : Setup) (t : Lent) (x : Answer) (u : Lent) where
       record {
         in-table = most _ (c .tables .answer) (start-most _ _ _ k m);
         kept = λ above. (
-          same (start-keeps su _ _ _ _ _ _ _ _ _ above _ (c .tables)),
+          same (call-keeps su _ _ _ _ _ _ _ _ _ above _ (c .tables)),
           c .buffer,
         );
       }

@@ -22,8 +22,7 @@ use Rattle.rules.specs.Papers.{Outcome, Paper, after, says}
 use Rattle.schedule.proofs.Promises.{writes}
 use Rattle.schedule.specs.Answers.{countedPaper, verdictPaper}
 use Rattle.schedule.specs.Judge.{Sound, judging}
-use Rattle.schedule.specs.Promise.{Does, Writes}
-use Rattle.schedule.specs.Starting.{Starts}
+use Rattle.schedule.specs.Promise.{Does, Writes, WritesOver}
 use Rattle.schedule.specs.State.{State}
 use Rattle.schedule.specs.declared.Counted.the-variants as Co
 use Rattle.schedule.specs.declared.Counted.{Counted}
@@ -38,23 +37,11 @@ use mathlib.Core.Path.{_∙_, _≡_, sym}
 
 -- by numbers and values
 module _ (su : Setup) (r : Record) (st le ro : List ℕ) (p q : Paper) (r₁ r₂ : Record) (st₁ le₁ ro₁ st₂ le₂ ro₂ : List ℕ) where
-  -- every public call that writes
-  pub one-outcome : (o : Outcome State) → Writes su r st le ro o p r₁ st₁ le₁ ro₁ → Writes su r st le ro o q r₂ st₂ le₂ ro₂
+  -- every public call that writes, the fresh start too
+  pub one-outcome : {k : ℕ} (o : Outcome State) → WritesOver k su r st le ro o p r₁ st₁ le₁ ro₁
+      → WritesOver k su r st le ro o q r₂ st₂ le₂ ro₂
       → (p ≡ q) × Same r₂ r₁ st₂ st₁ le₂ le₁ ro₂ ro₁
   one-outcome o w v = (
-    w .answer ∙ sym (v .answer),
-    record {
-      record-is = w .next ∙ sym (v .next);
-      store-is = w .store ∙ sym (v .store);
-      lens-is = w .lens ∙ sym (v .lens);
-      rows-is = w .rows ∙ sym (v .rows);
-    },
-  )
-
-  -- the fresh start
-  pub one-start : (o : Outcome State) → Starts su r st le ro o p r₁ st₁ le₁ ro₁ → Starts su r st le ro o q r₂ st₂ le₂ ro₂
-      → (p ≡ q) × Same r₂ r₁ st₂ st₁ le₂ le₁ ro₂ ro₁
-  one-start o w v = (
     w .answer ∙ sym (v .answer),
     record {
       record-is = w .next ∙ sym (v .next);
@@ -73,15 +60,11 @@ module _ (su : Setup) (r : Record) (st le ro : List ℕ) (p q : Paper) (r₁ r�
 -- and by the answers themselves, whose refusals carry words: a stored insertion and the fresh start; the other insertions; window deletion
 -- and `reset`; the two deletions by request ID
 module _ (su : Setup) (r : Record) (st le ro : List ℕ) (o : Outcome State) (r₁ r₂ : Record) (st₁ le₁ ro₁ st₂ le₂ ro₂ : List ℕ) where
-  pub one-stored : (a b : Done) → Inside D.Refused a → Inside D.Refused b → Writes su r st le ro o (donePaper a) r₁ st₁ le₁ ro₁
-      → Writes su r st le ro o (donePaper b) r₂ st₂ le₂ ro₂ → (a ≡ b) × Same r₂ r₁ st₂ st₁ le₂ le₁ ro₂ ro₁
+  pub one-stored : {k : ℕ} (a b : Done) → Inside D.Refused a → Inside D.Refused b
+      → WritesOver k su r st le ro o (donePaper a) r₁ st₁ le₁ ro₁ → WritesOver k su r st le ro o (donePaper b) r₂ st₂ le₂ ro₂
+      → (a ≡ b) × Same r₂ r₁ st₂ st₁ le₂ le₁ ro₂ ro₁
   one-stored a b i j w v =
       let e = one-outcome su r st le ro _ _ r₁ r₂ st₁ le₁ ro₁ st₂ le₂ ro₂ o w v in (one-done a b i j (e .0), e .1)
-
-  pub one-fresh : (a b : Done) → Inside D.Refused a → Inside D.Refused b → Starts su r st le ro o (donePaper a) r₁ st₁ le₁ ro₁
-      → Starts su r st le ro o (donePaper b) r₂ st₂ le₂ ro₂ → (a ≡ b) × Same r₂ r₁ st₂ st₁ le₂ le₁ ro₂ ro₁
-  one-fresh a b i j w v =
-      let e = one-start su r st le ro _ _ r₁ r₂ st₁ le₁ ro₁ st₂ le₂ ro₂ o w v in (one-done a b i j (e .0), e .1)
 
   pub one-insert : (a b : InsertAnswer) → Inside I.Refused a → Inside I.Refused b → Writes su r st le ro o (insertedPaper a) r₁ st₁ le₁ ro₁
       → Writes su r st le ro o (insertedPaper b) r₂ st₂ le₂ ro₂ → (a ≡ b) × Same r₂ r₁ st₂ st₁ le₂ le₁ ro₂ ro₁

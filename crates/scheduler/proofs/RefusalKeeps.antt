@@ -5,38 +5,25 @@ use Rattle.rules.proofs.Order.{refusal-keeps}
 use Rattle.rules.specs.Papers.{Outcome, Paper, says}
 use Rattle.schedule.proofs.Promises.{writes}
 use Rattle.schedule.specs.Judge.{Sound, judging}
-use Rattle.schedule.specs.Promise.{Does, Writes}
-use Rattle.schedule.specs.Starting.{Starts}
+use Rattle.schedule.specs.Promise.{Does, WritesOver}
 use Rattle.schedule.specs.State.{State, recordOf}
 use Rattle.schedule.specs.declared.Setup.{Setup}
 use Rattle.scheduler.specs.Laws.{Same}
-use Rattle.scheduler.specs.Steps.{count}
 use Rattle.slots.specs.View.{lensWith, storeWith}
 use Rattle.rows.specs.Entries.{relaid}
 use mathlib.Core.List.{List}
 use mathlib.Core.Path.{_∙_, _≡_, ap}
 
 module _ (su : Setup) (r : Record) (st le ro : List ℕ) (p : Paper) (r′ : Record) (st′ le′ ro′ : List ℕ) (above : p .number ≡ 0 → ⊥) where
-  -- every public call that writes, whatever its outcome is
-  pub call-keeps : (o : Outcome State) → Writes su r st le ro o p r′ st′ le′ ro′ → Same r r′ st st′ le le′ ro ro′
-  call-keeps o w =
+  -- every public call that writes, the fresh start too, whatever its outcome is
+  pub call-keeps : {k : ℕ} (o : Outcome State) → WritesOver k su r st le ro o p r′ st′ le′ ro′ → Same r r′ st st′ le le′ ro ro′
+  call-keeps {k} o w =
       let m : says o .number ≡ 0 → ⊥ = λ e. above (ap (λ (x : Paper). x .number) (w .answer) ∙ e) in
       record {
         record-is = w .next ∙ refusal-keeps o r recordOf m;
         store-is = w .store ∙ refusal-keeps o st (λ s. storeWith (su .store) st (s .pools)) m;
         lens-is = w .lens ∙ refusal-keeps o le (λ s. lensWith (su .store) le (s .pools)) m;
-        rows-is = w .rows ∙ refusal-keeps o ro (λ s. relaid ro (r .count) (s .entries)) m;
-      }
-
-  -- the fresh start
-  pub start-keeps : (o : Outcome State) → Starts su r st le ro o p r′ st′ le′ ro′ → Same r r′ st st′ le le′ ro ro′
-  start-keeps o w =
-      let m : says o .number ≡ 0 → ⊥ = λ e. above (ap (λ (x : Paper). x .number) (w .answer) ∙ e) in
-      record {
-        record-is = w .next ∙ refusal-keeps o r recordOf m;
-        store-is = w .store ∙ refusal-keeps o st (λ s. storeWith (su .store) st (s .pools)) m;
-        lens-is = w .lens ∙ refusal-keeps o le (λ s. lensWith (su .store) le (s .pools)) m;
-        rows-is = w .rows ∙ refusal-keeps o ro (λ s. relaid ro (su .entries) (s .entries)) m;
+        rows-is = w .rows ∙ refusal-keeps o ro (λ s. relaid ro k (s .entries)) m;
       }
 
   -- judged calls
