@@ -1,4 +1,5 @@
--- What the contracts of private functions cite. A reader need not believe this: the public calls' promises do not name it.
+-- What the store's answer to a deletion becomes in a deletion by request ID.
+-- A reader need not believe this file: contracts below the public calls cite it, no public call's promise does.
 use Rattle.store.specs.declared.Deleted.{Deleted}
 use Rattle.store.specs.declared.Deleted.the-variants as D
 use Rattle.by_id.specs.declared.FreeAnswer.{FreeAnswer}

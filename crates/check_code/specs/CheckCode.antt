@@ -1,5 +1,6 @@
 -- The check code, one bit at a time (document 01, module 1; ECSS-E-ST-70-41C's packet error control): CRC-16 with the
 -- polynomial 0x1021, from 0xFFFF, high bit first, nothing reflected, no final exclusive-or.
+use Rattle.rules.specs.Lists.{each}
 use Prim.Native.Nat.{_%_, _*_, _/_, suc, zero, ℕ}
 use lib.Bits.{bitXor}
 use mathlib.Core.List.{List, [], _∷_}
@@ -27,10 +28,5 @@ checkCode bs = feedAll 0xFFFF bs
 unfoldable pub shifted8 : ℕ → ℕ
 shifted8 k = shifts 8 (k * 256)
 
--- f at n numbers from i on
-abbrev pub run : (ℕ → ℕ) → ℕ → ℕ → List ℕ
-run f zero i = []
-run f (suc n) i = f i ∷ run f n (suc i)
-
 unfoldable pub tableOf : List ℕ
-tableOf = run shifted8 256 0
+tableOf = each shifted8 0 256

@@ -1,7 +1,7 @@
 -- The loop: what is left of the fold, over the store's promise.
 use Prim.Native.Nat.{_+_, _<_, _≤_, ℕ}
 use Rattle.client.specs.Answers.{oneIfDone}
-use Rattle.client.specs.Sweep.{countAll, one, sweepIn, without, withoutAll}
+use Rattle.client.specs.Sweep.{countAll, one, sweepIn, withoutOne, withoutAll}
 use Rattle.rules.specs.Papers.{Paper, after, done, no, says}
 use Rattle.store.proofs.Laid.{leaves-as, leaves-now, leaves-same, leaves-then}
 use Rattle.lookup.proofs.Numbers.{not-done}
@@ -62,9 +62,9 @@ going-next su st₀ le₀ addrs st le gone i g l r o st′ le′ d e f =
     let x : drop i addrs ≡ getD addrs i 0 ∷ drop (i + 1) addrs = rw (add-one, drop-cons addrs i 0) in
     let n : o ≡ one (view su st le) (getD addrs i 0) = e ∙ count-is (view su st le) (getD addrs i 0) r (d .answer) in
     let c = rw x at (g .counts) in
-    let v : view su st′ le′ ≡ without (view su st le) (getD addrs i 0) = d .lists .seen in
+    let v : view su st′ le′ ≡ withoutOne (view su st le) (getD addrs i 0) = d .lists .seen in
     let w : countAll (drop (i + 1) addrs) (view su st′ le′) ≡ countAll (drop (i + 1) addrs)
-    (without (view su st le) (getD addrs i 0)) = ap (countAll (drop (i + 1) addrs)) v in
+    (withoutOne (view su st le) (getD addrs i 0)) = ap (countAll (drop (i + 1) addrs)) v in
     record {
       at-most = omega arith;
       few = omega (arith, g .few);

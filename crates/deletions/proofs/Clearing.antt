@@ -22,17 +22,17 @@ use Rattle.rows.specs.Entries.{Entry, unpack}
 use Rattle.rows.specs.Order.{ordered}
 use Rattle.selection.specs.Windows.{firstRow, inWindow, outside}
 use Rattle.selection.specs.declared.Part.{Part}
-use Rattle.selection.specs.declared.TimeWindow.{TimeWindow}
+use Rattle.selection.specs.declared.MomentWindow.{MomentWindow}
 use Rattle.deletions.specs.Answers.{clearedPaper}
-use Rattle.deletions.specs.Deleting.{Swept, clearIn, deleteWindowIn, resetIn, sweep, tally, unswept}
+use Rattle.deletions.specs.Deleting.{Swept, clearIn, deleteWindowIn, enabledAs, resetIn, sweep, tally, unswept}
 use Rattle.windows.specs.Inside.{Opens}
-use Rattle.deletions.specs.Inside.{Sweeps, clearPart, enabledAs, leftOf}
+use Rattle.deletions.specs.Inside.{Sweeps, clearPart, leftOf}
 use Rattle.schedule.specs.Promise.{Does}
 use Rattle.schedule.specs.State.{State, recordOf, stateOf, withEntries, withPools}
 use Rattle.deletions.specs.declared.ClearAnswer.the-variants.{Done, Refused}
 use Rattle.schedule.specs.declared.Setup.{Setup}
 use Rattle.deletions.specs.declared.Tally.{Tally}
-use Rattle.windows.specs.declared.Window.{Window}
+use Rattle.windows.specs.declared.TimeWindow.{TimeWindow}
 use Rattle.windows.specs.declared.Opened.{Opened}
 use Rattle.windows.specs.declared.Opened.the-variants as O
 use Rattle.windows.proofs.Openings.{opened-at, opened-refused}
@@ -73,13 +73,13 @@ module _ (su : Setup) (r : Record) (st le ro : List ℕ) where
         rw (a, e ∙ sym (next-is h))
         (does-done su r st le ro (clearPart p b) (tally swept-all) cleared st′ le′ ro′ clear-is (s .lists) q)
 
-  module _ (w : Window) (o : Opened) (h : Opens w o) where
+  module _ (w : TimeWindow) (o : Opened) (h : Opens w o) where
     pub window-refused : (e : ScheduleRefusal) → o ≡ O.Refused e
         → Does su r st le ro (deleteWindowIn w) (clearedPaper (Refused e)) r st le ro
     unfolding deleteWindowIn clearedPaper
     window-refused e q = does-refused su r st le ro (deleteWindowIn w) (paper e) (opened-refused w _ o h e q)
 
-    window-is : (x : TimeWindow) (p : Part) → o ≡ O.At x → ordered (unpack (r .count) ro) ≡ true
+    window-is : (x : MomentWindow) (p : Part) → o ≡ O.At x → ordered (unpack (r .count) ro) ≡ true
         → p .first ≡ firstRow x (unpack (r .count) ro) → p .number ≡ length (inWindow x (unpack (r .count) ro))
         → clearPart p (r .enabled) (stateOf su r st le ro) ≡ deleteWindowIn w (stateOf su r st le ro)
     unfolding clearPart deleteWindowIn stateOf
@@ -89,7 +89,7 @@ module _ (su : Setup) (r : Record) (st le ro : List ℕ) where
         let v : without (p .first) (p .number) es ≡ outside x es = rw (f, n) (sym (window-rows es k x)) in
         ap₂ (λ (a b : List Entry). clearIn a b (stateOf su r st le ro)) g v ∙ sym (opened-at w _ o h x q .0)
 
-    pub window-done : (x : TimeWindow) (p : Part) (a : Paper) (n : Record) (st′ le′ ro′ : List ℕ) → o ≡ O.At x
+    pub window-done : (x : MomentWindow) (p : Part) (a : Paper) (n : Record) (st′ le′ ro′ : List ℕ) → o ≡ O.At x
         → ordered (unpack (r .count) ro) ≡ true
         → p .first ≡ firstRow x (unpack (r .count) ro) → p .number ≡ length (inWindow x (unpack (r .count) ro))
         → Does su r st le ro (clearPart p (r .enabled)) a n st′ le′ ro′ → Does su r st le ro (deleteWindowIn w) a n st′ le′ ro′

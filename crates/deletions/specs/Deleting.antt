@@ -1,6 +1,6 @@
 -- The deletions by window and `reset`: every entry that they cover goes.
 use Prim.Native.Nat.{_+_, ℕ}
-use mathlib.Core.Bool.{false}
+use mathlib.Core.Bool.{Bool, false}
 use mathlib.Core.List.{List, [], _∷_}
 use Rattle.rules.specs.Papers.{Outcome, Paper, done, no, refused}
 use Rattle.store.specs.Calls.{deleteIn}
@@ -9,7 +9,7 @@ use Rattle.rows.specs.Entries.{Entry}
 use Rattle.selection.specs.Windows.{inWindow, outside}
 use Rattle.schedule.specs.State.{State, withEntries, withPools}
 use Rattle.windows.specs.Windowing.{windowed}
-use Rattle.windows.specs.declared.Window.{Window}
+use Rattle.windows.specs.declared.TimeWindow.{TimeWindow}
 
 -- what a deletion of several packets comes to: how many were deleted, how many missing, the last refusal that the store gave for
 -- a missing one (number 0 where there was none), and the store
@@ -41,12 +41,12 @@ clearIn gone left s =
     let x = sweep gone (unswept (s .pools)) in
     done (tally x) (withEntries left (withPools (x .pools) s))
 
-unfoldable pub deleteWindowIn : Window → State → Outcome State
+unfoldable pub deleteWindowIn : TimeWindow → State → Outcome State
 deleteWindowIn w s = windowed w (λ tw. clearIn (inWindow tw (s .entries)) (outside tw (s .entries)) s)
 
--- `reset` also disables
-abbrev pub disabled : State → State
-disabled s = record { pools = s .pools; entries = s .entries; clock = s .clock; margin = s .margin; enabled = false }
+-- a state enabled or disabled; `reset` also disables
+abbrev pub enabledAs : Bool → State → State
+enabledAs b s = record { pools = s .pools; entries = s .entries; clock = s .clock; margin = s .margin; enabled = b }
 
 unfoldable pub resetIn : State → Outcome State
-resetIn s = clearIn (s .entries) [] (disabled s)
+resetIn s = clearIn (s .entries) [] (enabledAs false s)

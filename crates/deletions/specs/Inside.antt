@@ -1,4 +1,5 @@
--- What the contracts of private functions cite. A reader need not believe this: the public calls' promises do not name it.
+-- The code's tally of a sweep, and a range of rows cleared.
+-- A reader need not believe this file: contracts below the public calls cite it, no public call's promise does.
 use Prim.Native.Nat.{_+_, _-_, ℕ}
 use lib.ListN.{drop, take}
 use mathlib.Core.Bool.{Bool}
@@ -16,7 +17,7 @@ use Rattle.table_edit.specs.Edits.{without}
 use Rattle.rows.specs.Entries.{Entry}
 use Rattle.selection.specs.declared.Part.{Part}
 use Rattle.deletions.specs.Answers.{lastPaper}
-use Rattle.deletions.specs.Deleting.{Swept, clearIn, sweep, unswept}
+use Rattle.deletions.specs.Deleting.{Swept, clearIn, enabledAs, sweep, unswept}
 use Rattle.deletions.specs.declared.Last.the-variants as La
 use Rattle.deletions.specs.declared.Tally.{Tally}
 
@@ -35,9 +36,6 @@ pub record Sweeps (su : StoreSetup) (st le : List ℕ) (es : List Entry) (t : Ta
   pub lists : Leaves su st le (sweep es (unswept (view su st le)) .pools) st′ le′
 
 -- the entries of a range of rows go, with their packets; enabled or disabled afterwards
-abbrev pub enabledAs : Bool → State → State
-enabledAs b s = record { pools = s .pools; entries = s .entries; clock = s .clock; margin = s .margin; enabled = b }
-
 unfoldable pub clearPart : Part → Bool → State → Outcome State
 clearPart p b s =
     clearIn (take (p .number) (drop (p .first) (s .entries))) (without (p .first) (p .number) (s .entries)) (enabledAs b s)

@@ -6,7 +6,7 @@ use record::Record;
 use schedule::Setup;
 use selection::Part;
 use windows::Opened;
-use windows::Window;
+use windows::TimeWindow;
 ghost use Prim.Native.Nat.{_+_, _≤_};
 ghost use mathlib.Core.Path.{_≡_};
 ghost use Rattle.deletions.specs.Answers.{clearedPaper};
@@ -21,7 +21,7 @@ pub fn delete_by_time_filter(
     store: &mut [u8],
     lens: &mut [u16],
     rows: &mut [u64],
-    w: Window,
+    w: TimeWindow,
 ) -> Cleared
     requires { ⌜ Sound setup rec (now store) (now lens) (now rows) ⌝ }
     ensures { λ c. ⌜ Does setup rec (now (store .entry)) (now (lens .entry)) (now (rows .entry))

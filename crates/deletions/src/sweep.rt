@@ -8,7 +8,7 @@ ghost use Prim.Native.Nat.{_+_, _<_, _≤_};
 ghost use lib.ListN.{drop, take};
 ghost use Rattle.layout.specs.Judge.{Sound as StoreSound};
 ghost use Rattle.rows.specs.Entries.{unpack};
-ghost use Rattle.rows.specs.Order.{Sound as TableSound, mostEntries};
+ghost use Rattle.rows.specs.Order.{Sound as TableSound, maxEntries};
 ghost use Rattle.deletions.specs.Inside.{Sweeps, counted};
 
 pub fn sweep(
@@ -44,7 +44,7 @@ pub fn sweep(
 
 // One packet more.
 fn one_more(t: Tally, d: Deleted) -> Tally
-    requires { ⌜ t .deleted + t .missing < mostEntries ⌝ }
+    requires { ⌜ t .deleted + t .missing < maxEntries ⌝ }
     ensures { λ r. ⌜ r ≡ counted t d ⌝ }
 {
     let last = t.last;

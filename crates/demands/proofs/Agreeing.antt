@@ -1,6 +1,6 @@
 -- The promises determine answer, record and every lent byte, of one call and of any number of calls, for anything lent.
 use Prim.Native.Nat.{ℕ}
-use Rattle.demands.specs.Calling.{Calls, Changes, Lent, Looks, Marks, Modifies, Promised, ReadsInto, Runs, StartsOver, StoreChanges, StoreLooks, TicksOver, freshStart, request}
+use Rattle.demands.specs.Calling.{Calls, ScheduleChanges, Lent, ScheduleLooks, RecordChanges, Modifies, Promised, ReadsInto, Runs, StartsOver, StoreChanges, StoreLooks, TicksOver, freshStart, request}
 use Rattle.demands.specs.Demands.{OneOutcome, RunsAgree}
 use Rattle.record.specs.declared.Record.{Record}
 use Rattle.rules.specs.Papers.{Outcome}
@@ -29,7 +29,7 @@ module _ (su : Setup) (t : Lent) (x y : Answer) (u v : Lent) where
       let o = one-outcome su _ _ _ _ _ _ _ _ _ _ _ _ _ _ _ (c .tables) (d .tables) in
       (answers (o .0) (c .buffer ∙ sym (d .buffer)), lents (o .1))
 
-  changes : (call : State → Outcome State) → Changes su t x u call → Changes su t y v call → (x ≡ y) × (u ≡ v)
+  changes : (call : State → Outcome State) → ScheduleChanges su t x u call → ScheduleChanges su t y v call → (x ≡ y) × (u ≡ v)
   changes call c d =
       let o =
       one-outcome su (t .rec) (t .store) (t .lens) (t .rows) (x .paper) (y .paper) (u .rec) (v .rec) (u .store) (u .lens) (u .rows) (v .store)
@@ -43,10 +43,10 @@ module _ (su : Setup) (t : Lent) (x y : Answer) (u v : Lent) where
       (y .paper) (v .rec) (v .store) (v .lens) (v .rows) (y .buffer) (d .tables) in
       (answers (o .0) (o .2), lents (o .1))
 
-  looks : (call : State → Outcome (Unit {0})) → Looks su t x u call → Looks su t y v call → (x ≡ y) × (u ≡ v)
+  looks : (call : State → Outcome (Unit {0})) → ScheduleLooks su t x u call → ScheduleLooks su t y v call → (x ≡ y) × (u ≡ v)
   looks call c d = (answers (c .answer ∙ sym (d .answer)) (c .buffer ∙ sym (d .buffer)), c .lent ∙ sym (d .lent))
 
-  marks : (call : Record → Outcome Record) → Marks su t x u call → Marks su t y v call → (x ≡ y) × (u ≡ v)
+  marks : (call : Record → Outcome Record) → RecordChanges su t x u call → RecordChanges su t y v call → (x ≡ y) × (u ≡ v)
   marks call c d = (answers (c .answer ∙ sym (d .answer)) (c .buffer ∙ sym (d .buffer)), c .lent ∙ sym (d .lent))
 
   store-changes : (call : List Pool → Outcome (List Pool)) → StoreChanges su t x u call → StoreChanges su t y v call → (x ≡ y) × (u ≡ v)

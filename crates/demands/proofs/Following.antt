@@ -18,7 +18,7 @@ use Rattle.lookup.specs.Calls.{ifHeld, ifNamed, packetIn}
 use Rattle.layout.specs.Judge.{Sound as StoreSound}
 use Rattle.slots.specs.Pools.{Found, find, held, noPool, noSlot, vacant}
 use Rattle.slots.specs.View.{part, put, view}
-use Rattle.lookup.specs.Promise.{startOf}
+use Rattle.lookup.specs.Promise.{packetStart}
 use Rattle.layout.specs.declared.Setup.{Setup as StoreSetup}
 use lib.ListN.{length, take}
 use lib.Seq.{length-take-le}
@@ -95,7 +95,7 @@ module _ (su : Setup) (t : Lent) (x : Answer) (u : Lent) (s : Fine su t) where
           → after (ifHeld a f (λ n b. done (n ∷ []) (take n b))) (length ys) length ≡ length ys
           → u ≡ record {
             rec = t .rec;
-            store = after (ifHeld a f (λ n b. done (n ∷ []) (take n b))) (t .store) (λ b. put (startOf (su .store) a) (length b) ys (t .store));
+            store = after (ifHeld a f (λ n b. done (n ∷ []) (take n b))) (t .store) (λ b. put (packetStart (su .store) a) (length b) ys (t .store));
             lens = t .lens;
             rows = t .rows;
           }
@@ -107,7 +107,7 @@ module _ (su : Setup) (t : Lent) (x : Answer) (u : Lent) (s : Fine su t) where
           let m = held-whole (su .store) (t .store) (t .lens) (facts s .store) a n b e in
           let v = modify-steps su (t .rec) (t .store) (t .lens) (t .rows) s a n b ys e (sym w ∙ m) in
           marked (modify a ys) _
-          (l ∙ ap (λ (k : ℕ). record { rec = t .rec; store = put (startOf (su .store) a) k ys (t .store); lens = t .lens; rows = t .rows }) m)
+          (l ∙ ap (λ (k : ℕ). record { rec = t .rec; store = put (packetStart (su .store) a) k ys (t .store); lens = t .lens; rows = t .rows }) m)
           (c .buffer) (record { sound = v .sound; answer = p ∙ v .answer; state = v .state })
 
   pub calls-follow : (q : Request) → OfBytes q → Calls su q t x u → Follows su q t x u

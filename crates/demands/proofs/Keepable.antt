@@ -2,7 +2,7 @@
 use Rattle.deletions.specs.Deleting.{deleteWindowIn, resetIn}
 use Rattle.by_id.specs.ById.{deleteByIdIn, deleteKeepingIn}
 use Rattle.windows.specs.Windowing.{retrieveIn}
-use Rattle.demands.specs.Calling.{Calls, Changes, Lent, Looks, Marks, Promised, StoreChanges, StoreLooks, freshStart, request}
+use Rattle.demands.specs.Calling.{Calls, ScheduleChanges, Lent, ScheduleLooks, RecordChanges, Promised, StoreChanges, StoreLooks, freshStart, request}
 use Rattle.demands.specs.Demands.{Result, SomeOutcome, Whole}
 use Rattle.insertions.specs.Inserting.{insertUnwrappedIn}
 use Rattle.gate.specs.Entering.{insertStoredIn}
@@ -50,17 +50,17 @@ module _ (su : Setup) (t : Lent) where
   abbrev storeJudged : {A : Type 0} → (List Pool → Outcome A) → Outcome A
   storeJudged call = storeJudging (su .store) (t .store) (t .lens) call
 
-  changes : (call : State → Outcome State) → Changes su t (plain (says (judged call))) (leaves (judged call)) call
+  changes : (call : State → Outcome State) → ScheduleChanges su t (plain (says (judged call))) (leaves (judged call)) call
   changes call = record { tables = record { answer = refl; next = refl; store = refl; lens = refl; rows = refl }; buffer = refl }
 
-  looks : (call : State → Outcome (Unit {0})) → Looks su t (plain (says (judged call))) t call
+  looks : (call : State → Outcome (Unit {0})) → ScheduleLooks su t (plain (says (judged call))) t call
   looks call = record { answer = refl; lent = refl; buffer = refl }
 
   store-looks : (call : List Pool → Outcome (Unit {0})) → StoreLooks su t (plain (says (storeJudged call))) t call
   store-looks call = record { answer = refl; lent = refl; buffer = refl }
 
   marks : (call : Record → Outcome Record)
-      → Marks su t (plain (says (call (t .rec))))
+      → RecordChanges su t (plain (says (call (t .rec))))
       (record { rec = after (call (t .rec)) (t .rec) (λ r. r); store = t .store; lens = t .lens; rows = t .rows }) call
   marks call = record { answer = refl; lent = refl; buffer = refl }
 

@@ -1,6 +1,6 @@
 -- Demand 1, for every call and anything lent, sound or not: every answer has a number of the table, and a refusal changes nothing that is lent.
 use Prim.Native.Nat.{_≤_, ℕ}
-use Rattle.demands.specs.Calling.{Calls, Changes, Lent, Looks, Marks, Modifies, Promised, ReadsInto, StartsOver, StoreChanges, StoreLooks, TicksOver, freshStart, lentTo, request}
+use Rattle.demands.specs.Calling.{Calls, ScheduleChanges, Lent, ScheduleLooks, RecordChanges, Modifies, Promised, ReadsInto, StartsOver, StoreChanges, StoreLooks, TicksOver, freshStart, lentTo, request}
 use Rattle.demands.specs.Demands.{EveryCallAnswers}
 use Rattle.record.specs.declared.Record.{Record}
 use Rattle.rules.proofs.Order.{into-says, refusal-keeps}
@@ -18,7 +18,7 @@ use Rattle.scheduler.specs.Steps.{Answer, Request, add, bufferOf, count, delete
 use Rattle.lookup.specs.Calls.{judging as storeJudging, packetIn, readIn}
 use Rattle.layout.specs.Judge.{judged}
 use Rattle.slots.specs.Pools.{Pool}
-use Rattle.lookup.specs.Promise.{startOf}
+use Rattle.lookup.specs.Promise.{packetStart}
 use Rattle.slots.specs.View.{lensWith, put, storeWith, view}
 use Rattle.tick.specs.Tick.{Logged}
 use Rattle.time.specs.Time.{inRange, marginInRange}
@@ -70,7 +70,7 @@ module _ (su : Setup) (t : Lent) (x : Answer) (u : Lent) where
         );
       }
 
-  changes : (call : State → Outcome State) → ((s : State) → Own (call s)) → Changes su t x u call → AnsweredOrRefused [] x t u
+  changes : (call : State → Outcome State) → ((s : State) → Own (call s)) → ScheduleChanges su t x u call → AnsweredOrRefused [] x t u
   changes call h c =
       record {
         in-table = most _ (c .tables .answer) (judging-most call h);
@@ -91,10 +91,10 @@ module _ (su : Setup) (t : Lent) (x : Answer) (u : Lent) where
             (same (k .0), k .1);
       }
 
-  looks : (call : State → Outcome (Unit {0})) → ((s : State) → Own (call s)) → Looks su t x u call → AnsweredOrRefused [] x t u
+  looks : (call : State → Outcome (Unit {0})) → ((s : State) → Own (call s)) → ScheduleLooks su t x u call → AnsweredOrRefused [] x t u
   looks call h c = record { in-table = most _ (c .answer) (judging-most call h); kept = λ above. (c .lent, c .buffer) }
 
-  marks : (call : Record → Outcome Record) → says (call (t .rec)) .number ≤ 20 → Marks su t x u call → AnsweredOrRefused [] x t u
+  marks : (call : Record → Outcome Record) → says (call (t .rec)) .number ≤ 20 → RecordChanges su t x u call → AnsweredOrRefused [] x t u
   marks call h c =
       record {
         in-table = most _ (c .answer) h;
@@ -145,7 +145,7 @@ module _ (su : Setup) (t : Lent) (x : Answer) (u : Lent) where
         kept = λ above. (
           c .lent
               ∙ ap (λ (st : List ℕ). record { rec = t .rec; store = st; lens = t .lens; rows = t .rows })
-              (refusal-keeps o (t .store) (λ b. put (startOf (su .store) a) (length b) ys (t .store)) (refuses o (c .answer) above)),
+              (refusal-keeps o (t .store) (λ b. put (packetStart (su .store) a) (length b) ys (t .store)) (refuses o (c .answer) above)),
           c .buffer,
         );
       }

@@ -20,7 +20,7 @@ use Rattle.store.specs.Calls.{addIn, deleteIn}
 use Rattle.lookup.specs.Calls.{hasIn, judging as storeJudging, lenIn, packetIn, readIn}
 use Rattle.slots.specs.Pools.{Pool}
 use Rattle.store.specs.Promise.{Writes as StoreWrites}
-use Rattle.lookup.specs.Promise.{Reads, startOf}
+use Rattle.lookup.specs.Promise.{Reads, packetStart}
 use Rattle.slots.specs.View.{put}
 use Rattle.tick.specs.Promise.{Ticks}
 use Rattle.tick.specs.Tick.{tickIn}
@@ -46,7 +46,7 @@ module _ (su : Setup) (t : Lent) (x : Answer) (u : Lent) where
     pub buffer : x .buffer ≡ []
 
   -- an insertion or a deletion of the schedule: no buffer is lent
-  pub record Changes (call : State → Outcome State) : Type 0 where
+  pub record ScheduleChanges (call : State → Outcome State) : Type 0 where
     pub tables : Writes su (t .rec) (t .store) (t .lens) (t .rows)
         (judging su (t .rec) (t .store) (t .lens) (t .rows) call) (x .paper) (u .rec) (u .store) (u .lens) (u .rows)
     pub buffer : x .buffer ≡ []
@@ -58,13 +58,13 @@ module _ (su : Setup) (t : Lent) (x : Answer) (u : Lent) where
         (x .paper) (u .rec) (u .store) (u .lens) (u .rows) (x .buffer)
 
   -- count and retrieval: nothing that is lent can be written
-  pub record Looks (call : State → Outcome (Unit {0})) : Type 0 where
+  pub record ScheduleLooks (call : State → Outcome (Unit {0})) : Type 0 where
     pub answer : x .paper ≡ says (judging su (t .rec) (t .store) (t .lens) (t .rows) call)
     pub lent : u ≡ t
     pub buffer : x .buffer ≡ []
 
   -- enable, disable, setting the clock: they are lent the record alone
-  pub record Marks (call : Record → Outcome Record) : Type 0 where
+  pub record RecordChanges (call : Record → Outcome Record) : Type 0 where
     pub answer : x .paper ≡ says (call (t .rec))
     pub lent : u ≡ record { rec = after (call (t .rec)) (t .rec) (λ r. r); store = t .store; lens = t .lens; rows = t .rows }
     pub buffer : x .buffer ≡ []
@@ -98,7 +98,7 @@ module _ (su : Setup) (t : Lent) (x : Answer) (u : Lent) where
           rec = t .rec;
           store =
               after (storeJudging (su .store) (t .store) (t .lens) (λ ps. packetIn ps a)) (t .store)
-              (λ b. put (startOf (su .store) a) (length b) ys (t .store));
+              (λ b. put (packetStart (su .store) a) (length b) ys (t .store));
           lens = t .lens;
           rows = t .rows;
         }
@@ -112,18 +112,18 @@ Calls su (modify a ys) t x u = Modifies su t x u a ys
 Calls su (delete a) t x u = StoreChanges su t x u (λ ps. deleteIn ps a)
 Calls su (hasElementAt a) t x u = StoreLooks su t x u (λ ps. hasIn ps a)
 Calls su (lenOfData a) t x u = StoreLooks su t x u (λ ps. lenIn ps a)
-Calls su (setClock c) t x u = Marks su t x u (clockIn c)
-Calls su enable t x u = Marks su t x u (markIn true)
-Calls su disable t x u = Marks su t x u (markIn false)
-Calls su count t x u = Looks su t x u countIn
-Calls su (insertWrapped p) t x u = Changes su t x u (insertWrappedIn su p)
-Calls su (insertUnwrapped c p) t x u = Changes su t x u (insertUnwrappedIn su c p)
-Calls su (insertStored c id a) t x u = Changes su t x u (insertStoredIn su c id a)
-Calls su (retrieve w) t x u = Looks su t x u (retrieveIn w)
-Calls su (deleteWindow w) t x u = Changes su t x u (deleteWindowIn w)
-Calls su reset t x u = Changes su t x u resetIn
-Calls su (deleteKeeping id) t x u = Changes su t x u (deleteKeepingIn id)
-Calls su (deleteById id) t x u = Changes su t x u (deleteByIdIn id)
+Calls su (setClock c) t x u = RecordChanges su t x u (clockIn c)
+Calls su enable t x u = RecordChanges su t x u (markIn true)
+Calls su disable t x u = RecordChanges su t x u (markIn false)
+Calls su count t x u = ScheduleLooks su t x u countIn
+Calls su (insertWrapped p) t x u = ScheduleChanges su t x u (insertWrappedIn su p)
+Calls su (insertUnwrapped c p) t x u = ScheduleChanges su t x u (insertUnwrappedIn su c p)
+Calls su (insertStored c id a) t x u = ScheduleChanges su t x u (insertStoredIn su c id a)
+Calls su (retrieve w) t x u = ScheduleLooks su t x u (retrieveIn w)
+Calls su (deleteWindow w) t x u = ScheduleChanges su t x u (deleteWindowIn w)
+Calls su reset t x u = ScheduleChanges su t x u resetIn
+Calls su (deleteKeeping id) t x u = ScheduleChanges su t x u (deleteKeepingIn id)
+Calls su (deleteById id) t x u = ScheduleChanges su t x u (deleteByIdIn id)
 Calls su (tick limit del log) t x u = TicksOver su t x u limit del log
 
 -- every call of 01: the fresh start, or a request's

@@ -1,5 +1,6 @@
 -- Words of a good setup fit the fields that hold them; and the setup that was read.
 -- Assumes nothing.
+use Rattle.rules.proofs.Each.{each-at}
 use Prim.Native.Nat.{_%_, _*_, _+_, _/_, _<_, _≤_, suc, zero, ℕ}
 use Rattle.face_reading.specs.Inside.{ReadsStore, fine, narrow}
 use Rattle.face_reading.specs.Reading.{column, storeSetup, switched, wellCounted, word}
@@ -8,7 +9,6 @@ use Rattle.rules.proofs.First.{from-more}
 use Rattle.layout.specs.Judge.{poolOk, poolOkAt, setupOk}
 use Rattle.layout.specs.Layout.{sizeAt, slotsAt}
 use Rattle.layout.specs.Limits.{maxSlotSize, maxSlots, maxSubpools}
-use Rattle.slots.specs.View.{each}
 use borrow.Author.Tests.{eq-eqb, eqb-false, eqb-true, le-ltb, leb-false, leb-true, lt-ltb, ltb-true}
 use lib.Dec.{eqb, leb, ltb}
 use lib.ListN.{getD, length}
@@ -18,16 +18,9 @@ use mathlib.Core.Path.{_∙_, _≡_, ap, refl}
 use native.Mathlib.Omega.{arith}
 use Rattle.layout.specs.declared.Setup.{Setup}
 
--- each f, at a place
-pub each-at : (f : ℕ → ℕ) (n i k : ℕ) → k < n → getD (each f i n) k 0 ≡ f (i + k)
-unfolding each
-each-at f zero i k l = absurd (omega arith)
-each-at f (suc n) i zero l = ap f (omega arith)
-each-at f (suc n) i (suc k) l = each-at f n (suc i) k (omega arith) ∙ ap f (omega arith)
-
 column-at : (from : ℕ) (ws : List ℕ) (k : ℕ) → k < maxSubpools → getD (column from ws) k 0 ≡ word ws (from + 2 * k)
 unfolding column
-column-at from ws k l = each-at (λ j. word ws (from + 2 * j)) maxSubpools 0 k l ∙ ap (λ j. word ws (from + 2 * j)) (omega arith)
+column-at from ws k l = each-at (λ j. word ws (from + 2 * j)) 0 maxSubpools 0 k l ∙ ap (λ j. word ws (from + 2 * j)) (omega arith)
 
 -- behind the last word
 pub beyond : (ws : List ℕ) (i : ℕ) → length ws ≤ i → word ws i ≡ 0

@@ -1,4 +1,5 @@
--- A reader need not believe this file: no promise of a call of the C face cites it. Words as they were read.
+-- Words as they were read.
+-- A reader need not believe this file: contracts below the public calls cite it, no public call's promise does.
 use Prim.Native.Nat.{_*_, _+_, ℕ}
 use Rattle.face_reading.specs.Reading.{storeSetup, wellCounted, word}
 use Rattle.record.specs.Record.{timesInRange}

@@ -1,14 +1,14 @@
 -- The words of setup and record, and the ends of a window, as include/silotwist.h lays them out. Every word is taken whole, never cut to a width.
 use Prim.Native.Nat.{_*_, _+_, _-_, ℕ}
 use Rattle.layout.specs.Limits.{maxSubpools}
-use Rattle.slots.specs.View.{each}
+use Rattle.rules.specs.Lists.{each}
 use lib.Dec.{eqb, ltb}
 use lib.IntN.{negsuc, pos, ℤ}
 use lib.ListN.{getD, length}
 use mathlib.Core.Bool.{Bool, false, not, true}
 use mathlib.Core.List.{List}
-use Rattle.windows.specs.declared.Window.{Window}
-use Rattle.windows.specs.declared.Window.the-variants.{All, From, FromTo, To}
+use Rattle.windows.specs.declared.TimeWindow.{TimeWindow}
+use Rattle.windows.specs.declared.TimeWindow.the-variants.{All, From, FromTo, To}
 use Rattle.record.specs.declared.Record.{Record}
 use Rattle.schedule.specs.declared.Setup.{Setup}
 use Rattle.layout.specs.declared.Setup.{Setup as StoreSetup}
@@ -60,7 +60,7 @@ recordFrom ws =
     }
 
 -- a window has a start if has-from and an end if has-to; an end that it has not is not looked at
-unfoldable pub windowFrom : Bool → UnixTime → Bool → UnixTime → Window
+unfoldable pub windowFrom : Bool → UnixTime → Bool → UnixTime → TimeWindow
 windowFrom true f true t = FromTo f t
 windowFrom true f false t = From f
 windowFrom false f true t = To t

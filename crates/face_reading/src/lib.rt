@@ -3,7 +3,7 @@ use record::Record;
 use schedule::Setup;
 use time::Margin;
 use time::UnixTime;
-use windows::Window;
+use windows::TimeWindow;
 ghost use mathlib.Core.Path.{_≡_};
 ghost use mathlib.Core.Bool.{false, true};
 ghost use Prim.Native.Nat.{_<_};
@@ -194,17 +194,17 @@ pub fn time(secs: i64, nanos: u32) -> UnixTime
 }
 
 // A window: an end that it has not is not looked at.
-pub fn window(has_from: bool, from: UnixTime, has_to: bool, to: UnixTime) -> Window
+pub fn window(has_from: bool, from: UnixTime, has_to: bool, to: UnixTime) -> TimeWindow
     ensures { λ r. ⌜ r ≡ windowFrom «has_from» from «has_to» to ⌝ }
 {
     if has_from {
         if has_to {
-            return Window::FromTo(from, to);
+            return TimeWindow::FromTo(from, to);
         }
-        return Window::From(from);
+        return TimeWindow::From(from);
     }
     if has_to {
-        return Window::To(to);
+        return TimeWindow::To(to);
     }
-    Window::All
+    TimeWindow::All
 }

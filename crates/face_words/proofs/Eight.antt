@@ -1,21 +1,16 @@
 -- The 8 words of an answer: values that were padded, and the loop that copies them.
 -- Assumes nothing.
 use Prim.Native.Nat.{_+_, _<_, _≤_, suc, zero, ℕ}
-use Rattle.face_reading.proofs.Narrow.{each-at}
+use Rattle.rules.proofs.Each.{each-at, each-next}
 use Rattle.face_reading.specs.Reading.{word}
 use Rattle.face_words.specs.Inside.{eight}
 use Rattle.face_words.specs.Padding.{padded}
 use Rattle.slots.proofs.Lists.{front-more}
-use Rattle.slots.specs.View.{each}
+use Rattle.rules.specs.Lists.{each}
 use lib.ListN.{drop, getD, length, length-append, length-replicate, length-take, replicate, set, take}
 use mathlib.Core.List.{List, [], _++_, _∷_}
 use mathlib.Core.Path.{_∙_, _≡_, ap, refl}
 use native.Mathlib.Omega.{arith}
-
-each-next : (f : ℕ → ℕ) (n i : ℕ) → each f (suc i) n ≡ each (λ k. f (suc k)) i n
-unfolding each
-each-next f zero i = refl
-each-next f (suc n) i = ap (λ l. f (suc i) ∷ l) (each-next f n (suc i))
 
 each-take : (n : ℕ) (xs : List ℕ) → n ≤ length xs → each (word xs) 0 n ≡ take n xs
 unfolding each
@@ -37,7 +32,7 @@ padded-again vs =
 -- the words that a loop copies
 pub eight-at : (ws : List ℕ) (i : ℕ) → i < 8 → getD (eight ws) i 0 ≡ word ws i
 unfolding eight
-eight-at ws i l = each-at (word ws) 8 0 i l ∙ ap (word ws) (omega arith)
+eight-at ws i l = each-at (word ws) 0 8 0 i l ∙ ap (word ws) (omega arith)
 
 eight-long : (ws : List ℕ) (i : ℕ) → i < 8 → i < length (eight ws)
 unfolding eight each

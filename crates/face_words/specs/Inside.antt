@@ -1,4 +1,5 @@
--- A reader need not believe this file: no promise of a call of the C face cites it. An answer by value, and words that are written.
+-- An answer by value, and words that are written.
+-- A reader need not believe this file: contracts below the public calls cite it, no public call's promise does.
 use Prim.Native.Nat.{ℕ}
 use Rattle.face_reading.specs.Reading.{word}
 use Rattle.face_words.specs.Padding.{padded}
@@ -6,7 +7,7 @@ use Rattle.record.specs.Refusals.{marginWords, timeWords, wordOf}
 use Rattle.record.specs.declared.Record.{Record}
 use Rattle.rules.specs.Papers.{Paper}
 use Rattle.lookup.specs.Refusals.{bit}
-use Rattle.slots.specs.View.{each}
+use Rattle.rules.specs.Lists.{each}
 use Rattle.time.specs.declared.UnixTime.{UnixTime}
 use lib.Dec.{eqb}
 use lib.ListN.{drop, set}

@@ -1,4 +1,5 @@
--- What the contract of `gate` cites, which the insertions go by. A reader need not believe this: the public calls' promises do not name it.
+-- What the gate answers: neither 13 nor 14, or which of them.
+-- A reader need not believe this file: contracts below the public calls cite it, no public call's promise does.
 use Prim.Native.Nat.{_<_, ℕ}
 use mathlib.Core.Bool.{false}
 use mathlib.Core.List.{List}

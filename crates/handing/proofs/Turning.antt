@@ -3,7 +3,7 @@
 use Prim.Native.Nat.{_*_, _+_, _-_, _<_, _≤_, suc, ℕ}
 use Rattle.log.proofs.Sizes.{size-records}
 use Rattle.log.proofs.Whole.{ended, left, turn}
-use Rattle.log.specs.Log.{LogRecord, mostLogBytes, offsets, records, total}
+use Rattle.log.specs.Log.{LogRecord, maxLogBytes, offsets, records, total}
 use Rattle.store.proofs.Laid.{leaves-as, leaves-now, leaves-same, leaves-then}
 use Rattle.slots.specs.Pools.{Pool, find}
 use Rattle.slots.specs.View.{Leaves, view}
@@ -85,7 +85,7 @@ module _ (su : Setup) (st₀ le₀ log₀ w : List ℕ) (m : ℕ) (del on : Bool
   total-all : total all ≡ 8 + 4 * m + length (records all)
   total-all = omega (arith, total-is all, length-all)
 
-  pub turning-start : Roomy del on (unpack m w) (view su st₀ le₀) log₀ → 8 + 4 * m ≤ mostLogBytes
+  pub turning-start : Roomy del on (unpack m w) (view su st₀ le₀) log₀ → 8 + 4 * m ≤ maxLogBytes
   turning-start r = omega (arith, r .small, total-all)
 
   pub turning-first : StoreSound su st₀ le₀ → Turning st₀ le₀ log₀ (8 + 4 * m) 0
@@ -102,7 +102,7 @@ module _ (su : Setup) (st₀ le₀ log₀ w : List ℕ) (m : ℕ) (del on : Bool
       }
 
   module _ (st le log : List ℕ) (at i : ℕ) (k : Turning st le log at i) where
-    pub turning-end : Roomy del on (unpack m w) (view su st₀ le₀) log₀ → (at ≤ length log) × (at ≤ mostLogBytes)
+    pub turning-end : Roomy del on (unpack m w) (view su st₀ le₀) log₀ → (at ≤ length log) × (at ≤ maxLogBytes)
     turning-end r = (omega (arith, k .sum, r .holds, k .long), omega (arith, k .sum, r .small))
 
     module _ (h : i < m) where
@@ -126,7 +126,7 @@ module _ (su : Setup) (st₀ le₀ log₀ w : List ℕ) (m : ℕ) (del on : Bool
 
       pub turning-room : (a : ℕ) → a ≡ row w i .addr → Roomy del on (unpack m w) (view su st₀ le₀) log₀
           → (at + 17 + length (packetOf (find (view su st le) a)) ≤ length log)
-          × (at + 17 + length (packetOf (find (view su st le) a)) ≤ mostLogBytes)
+          × (at + 17 + length (packetOf (find (view su st le) a)) ≤ maxLogBytes)
       turning-room a q y = rw q (omega (arith, sum-more, y .holds, k .long), omega (arith, sum-more, y .small))
 
       pub turning-next : (id a n : ℕ) (l₁ st′ le′ l₂ : List ℕ) → id ≡ row w i .id → a ≡ row w i .addr

@@ -1,6 +1,6 @@
 -- The turns of entries that are all handed out: their records, the store after them, and what the code promises of both.
 use Prim.Native.Nat.{_≤_, ℕ}
-use Rattle.log.specs.Log.{LogRecord, logBytes, mostLogBytes, total}
+use Rattle.log.specs.Log.{LogRecord, logBytes, maxLogBytes, total}
 use Rattle.slots.specs.Pools.{Pool, find}
 use Rattle.slots.specs.View.{Leaves, view}
 use Rattle.rows.specs.Entries.{Entry}
@@ -29,4 +29,4 @@ pub record Turns (su : Setup) (del on : Bool) (es : List Entry) (st le log st′
 -- the log's used part holds them all
 pub record Roomy (del on : Bool) (es : List Entry) (ps : List Pool) (log : List ℕ) : Type 0 where
   pub holds : total (turns (leave del) (always on) es ps) ≤ length log
-  pub small : total (turns (leave del) (always on) es ps) ≤ mostLogBytes
+  pub small : total (turns (leave del) (always on) es ps) ≤ maxLogBytes

@@ -1,4 +1,5 @@
--- What the contracts of private functions cite. A reader need not believe this: the public calls' promises do not name it.
+-- Which refusal an insertion gives that stores nothing.
+-- A reader need not believe this file: contracts below the public calls cite it, no public call's promise does.
 use mathlib.Core.List.{List}
 use Rattle.record.specs.Refusals.{paper}
 use Rattle.record.specs.declared.ScheduleRefusal.{ScheduleRefusal}

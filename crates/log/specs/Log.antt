@@ -5,8 +5,8 @@ use lib.ListN.{length}
 use mathlib.Core.List.{List, [], _++_, _∷_}
 
 -- "Of a log, only the first 1,048,576 bytes are used"
-abbrev pub mostLogBytes : ℕ
-mostLogBytes = 1048576
+abbrev pub maxLogBytes : ℕ
+maxLogBytes = 1048576
 
 -- what a record says: flag, request ID, address as inserted, packet
 pub record LogRecord : Type 0 where

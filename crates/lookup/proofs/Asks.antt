@@ -7,7 +7,7 @@ use Rattle.layout.specs.Limits.{maxSlotSize, storeFree}
 use Rattle.lookup.proofs.Judging.{judging-fine}
 use Rattle.lookup.proofs.Packets.{Packet, spot-refused}
 use Rattle.lookup.specs.Calls.{hasIn, ifHeld, ifNamed, judging, lenIn, packetIn, readIn}
-use Rattle.lookup.specs.Promise.{Finds, Lends, Reads, foundAs, startOf}
+use Rattle.lookup.specs.Promise.{Finds, Lends, Reads, foundAs, packetStart}
 use Rattle.lookup.specs.Refusals.{lengthPaper, paper, presencePaper}
 use Rattle.rules.specs.Papers.{Outcome, Paper, after, done, no, refused, says}
 use Rattle.rules.specs.Tests.{unless}
@@ -103,7 +103,7 @@ module _ (su : Setup) (st le : List ℕ) (a : ℕ) where
         rw (h .1, le-leb _ _ l) (record { answer = refl; buffer = e ∙ ap (λ (x : List ℕ). over x buf) (sym (h .2)) })
 
   pub span-inside : (r : Whereabouts) (s : Span) → Finds su st le a r → r ≡ Wh.At s
-      → (s .from ≡ startOf su a) × (s .from + s .len ≤ length st) × (s .len ≤ maxSlotSize)
+      → (s .from ≡ packetStart su a) × (s .from + s .len ≤ length st) × (s .len ≤ maxSlotSize)
   span-inside r s f q = (subst (λ (x : Whereabouts). Finds su st le a x) q f) .inside
 
   -- modify

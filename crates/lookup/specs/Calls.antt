@@ -1,4 +1,4 @@
--- What the calls that look a packet up come to, in the paper's numbers and by the store's rules.
+-- What the calls that look a packet up come to, in document 01's numbers and by the store's rules.
 use Prim.Native.Nat.{ℕ}
 use Rattle.address.specs.Address.{addressOf, poolOf, slotOf}
 use Rattle.layout.specs.Judge.{judged}

@@ -21,8 +21,8 @@ pub record Reads (o : Outcome (List ℕ)) (buf : List ℕ) (p : Paper) (buf′ :
   pub buffer : buf′ ≡ after o buf (λ b. b)
 
 -- where the packet of an address starts in the store
-abbrev pub startOf : Setup → ℕ → ℕ
-startOf su a = bytesBefore su (poolOf a) + slotOf a * sizeAt su (poolOf a)
+abbrev pub packetStart : Setup → ℕ → ℕ
+packetStart su a = bytesBefore su (poolOf a) + slotOf a * sizeAt su (poolOf a)
 
 -- What a search promises a caller who has judged: the packet lies there, or why there is none.
 unfoldable pub foundAs : List ℕ → Whereabouts → Outcome (List ℕ)
@@ -30,7 +30,7 @@ foundAs st (W.At s) = done (s .len ∷ []) (part (s .from) (s .len) st)
 foundAs st (W.Refused e) = refused (paper e)
 
 abbrev pub SpanIn : Setup → List ℕ → ℕ → Whereabouts → Type 0
-SpanIn su st a (W.At s) = (s .from ≡ startOf su a) × (s .from + s .len ≤ length st) × (s .len ≤ maxSlotSize)
+SpanIn su st a (W.At s) = (s .from ≡ packetStart su a) × (s .from + s .len ≤ length st) × (s .len ≤ maxSlotSize)
 SpanIn su st a (W.Refused e) = Unit {0}
 
 pub record Finds (su : Setup) (st le : List ℕ) (a : ℕ) (r : Whereabouts) : Type 0 where
@@ -42,7 +42,7 @@ abbrev pub lentBytes : Setup → List ℕ → List ℕ → ℕ → List ℕ
 lentBytes su st le a = after (judging su st le (λ ps. packetIn ps a)) [] (λ b. b)
 
 abbrev pub lentFrom : Setup → List ℕ → List ℕ → ℕ → ℕ
-lentFrom su st le a = after (judging su st le (λ ps. packetIn ps a)) 0 (λ b. startOf su a)
+lentFrom su st le a = after (judging su st le (λ ps. packetIn ps a)) 0 (λ b. packetStart su a)
 
 -- What is promised of the place before it is lent.
 pub record Lends (su : Setup) (st le : List ℕ) (a : ℕ) (s : Span) : Type 0 where

@@ -1,4 +1,5 @@
--- The paper's number and values for each refusal of the store, and each answer of a call that looks a packet up: 0 for one that is no refusal.
+-- Document 01's number and values for each refusal of the store, and for each answer of a call that looks a packet up: 0 for one
+-- that is no refusal.
 use Prim.Native.Nat.{ℕ}
 use Rattle.rules.specs.Papers.{Paper, no}
 use mathlib.Core.Bool.{Bool, false, true}

@@ -4,7 +4,7 @@ use Prim.Native.Nat.{_+_, _<_, _≤_, suc, ℕ}
 use Rattle.measure.proofs.Marking.{marked-more, marked-none}
 use Rattle.measure.proofs.Standing.{Stands, stands-first, stands-next}
 use Rattle.measure.specs.Fitting.{fitting}
-use Rattle.measure.specs.Marks.{Marked, marking, standing}
+use Rattle.measure.specs.Inside.{Marked, marking, standing}
 use Rattle.rules.specs.Tests.{unless}
 use Rattle.layout.proofs.Bounds.{bounds}
 use Rattle.layout.specs.Judge.{Sound}

@@ -3,7 +3,7 @@
 use Prim.Native.Nat.{_≤_, ℕ}
 use Rattle.measure.proofs.Marking.{marking-keep, standing-beyond, standing-gone, standing-marked, standing-other, standing-there}
 use Rattle.rules.proofs.Cases.{eq-or-ne}
-use Rattle.measure.specs.Marks.{marking, standing}
+use Rattle.measure.specs.Inside.{marking, standing}
 use Rattle.store.proofs.Rows.{RowSays, SameSlot, row-says, row-slot, slot-row}
 use Rattle.address.specs.Address.{poolOf, slotOf}
 use Rattle.layout.specs.Judge.{Sound}

@@ -3,7 +3,7 @@
 use Prim.Native.Nat.{_+_, _-_, _<_, _≤_, ℕ}
 use Rattle.measure.proofs.Marking.{lt-or-le}
 use Rattle.rules.proofs.Cases.{eq-or-ne}
-use Rattle.measure.specs.Marks.{Marked, Unmarked, added, bare}
+use Rattle.measure.specs.Inside.{Marked, Unmarked, added, bare}
 use Rattle.rules.specs.Tests.{allOf, unless}
 use Rattle.store.proofs.Rows.{row-plain}
 use Rattle.layout.specs.Judge.{Sound}

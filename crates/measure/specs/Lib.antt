@@ -1,3 +1,3 @@
 -- How many entries fit into the log, and the marks that counting leaves.
 pub mod Fitting
-pub mod Marks
+pub mod Inside

@@ -3,13 +3,13 @@
 ghost use mathlib.Core.Path.{_≡_};
 ghost use Prim.Native.Nat.{_<_, _≤_};
 ghost use lib.ListN.{length};
-ghost use Rattle.log.specs.Log.{mostLogBytes};
+ghost use Rattle.log.specs.Log.{maxLogBytes};
 ghost use Rattle.layout.specs.Judge.{Sound as StoreSound};
 ghost use Rattle.layout.specs.Layout.{allRows};
 ghost use Rattle.slots.specs.View.{view};
 ghost use Rattle.rows.specs.Entries.{unpack};
 ghost use Rattle.rows.specs.Order.{Held};
-ghost use Rattle.measure.specs.Marks.{Marked, Unmarked, added, bare, marking, standing};
+ghost use Rattle.measure.specs.Inside.{Marked, Unmarked, added, bare, marking, standing};
 ghost use Rattle.measure.specs.Fitting.{fitting};
 ghost use Rattle.turn.specs.Turns.{leave};
 use layout::STORE_FREE;
@@ -70,7 +70,7 @@ fn mark_fitting(
 ) -> usize
     requires { ⌜ StoreSound setup (now store) (now lens) ⌝ }
     requires { ⌜ Held (now rows) n ⌝ }
-    requires { ⌜ (8 ≤ cap) × (cap ≤ mostLogBytes) ⌝ }
+    requires { ⌜ (8 ≤ cap) × (cap ≤ maxLogBytes) ⌝ }
     ensures { λ r. ⌜ (r ≡ fitting (leave delete) 8 cap (unpack n (now (rows .entry))) (view setup (now (store .entry)) (now (lens .entry))))
         × Marked delete (allRows setup) (now (lens .entry)) (now (lens .exit)) ⌝ }
 {
@@ -129,7 +129,7 @@ pub fn measure(
 ) -> usize
     requires { ⌜ StoreSound setup (now store) (now lens) ⌝ }
     requires { ⌜ Held (now rows) n ⌝ }
-    requires { ⌜ (8 ≤ cap) × (cap ≤ mostLogBytes) ⌝ }
+    requires { ⌜ (8 ≤ cap) × (cap ≤ maxLogBytes) ⌝ }
     ensures { λ r. ⌜ (r ≡ fitting (leave delete) 8 cap (unpack n (now (rows .entry))) (view setup (now (store .entry)) (now (lens .entry))))
         × (now (lens .exit) ≡ now (lens .entry)) ⌝ }
 {

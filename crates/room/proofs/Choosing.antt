@@ -3,7 +3,7 @@ use Prim.Native.Nat.{_<_, _≤_, suc, zero, ℕ}
 use Rattle.room.proofs.Grow.{NamedAt, Slotted, grow, shape}
 use Rattle.room.specs.FreeSlot.{MoreChangeNothing, slotTaken}
 use Rattle.address.specs.Address.{addressOf, poolOf, slotOf}
-use Rattle.slots.specs.Pools.{Choice, Pool, Slot, allTaken, choose, free, into, lowest, next, pick, shift, taken, tooLarge}
+use Rattle.slots.specs.Pools.{Choice, Pool, Slot, allTaken, choose, free, into, lowest, next, pick, shiftPool, taken, tooLarge}
 use lib.Dec.{leb}
 use lib.ListN.{length}
 use mathlib.Core.Bool.{Bool, false, true}
@@ -33,7 +33,7 @@ pick-grow spill false o o′ r r′ f g h = g h
 pick-grow spill true (some i) o′ r r′ f g h = rw (f tt)
 pick-grow spill true none o′ r r′ f g h = cc
 
-shift-full : (r : Choice) → isFull (shift r) ≡ false → isFull r ≡ false
+shift-full : (r : Choice) → isFull (shiftPool r) ≡ false → isFull r ≡ false
 shift-full tooLarge h = refl
 shift-full (allTaken k) h = h
 shift-full (into k i) h = refl
@@ -43,7 +43,7 @@ same-pools : (spill : Bool) (ps : List Pool) (n : ℕ) → isFull (choose false 
 unfolding choose
 same-pools spill [] n h = refl
 same-pools spill (p ∷ ps) n h =
-    pick-grow spill (leb n (p .size)) _ _ _ _ (λ e. refl) (λ e. ap shift (same-pools spill ps n (shift-full (choose false ps n) e))) h
+    pick-grow spill (leb n (p .size)) _ _ _ _ (λ e. refl) (λ e. ap shiftPool (same-pools spill ps n (shift-full (choose false ps n) e))) h
 
 pub choose-grow : (spill : Bool) (ks : List ℕ) (ps : List Pool) (n : ℕ) → isFull (choose false ps n) ≡ false
     → choose spill (grow ks ps) n ≡ choose false ps n
@@ -52,7 +52,7 @@ choose-grow spill [] ps n h = same-pools spill ps n h
 choose-grow spill (k ∷ ks) [] n h = refl
 choose-grow spill (k ∷ ks) (p ∷ ps) n h =
     pick-grow spill (leb n (p .size)) _ _ _ _ (more-change-nothing (p .slots) _)
-    (λ e. ap shift (choose-grow spill ks ps n (shift-full (choose false ps n) e))) h
+    (λ e. ap shiftPool (choose-grow spill ks ps n (shift-full (choose false ps n) e))) h
 
 -- Slots of the store
 
@@ -74,7 +74,7 @@ lowest-below [] = tt
 lowest-below (free b ∷ xs) = omega arith
 lowest-below (taken n b ∷ xs) = next-below (length xs) (lowest xs) (lowest-below xs)
 
-shift-in : (n : ℕ) (ns : List ℕ) (r : Choice) → Inside ns r → Inside (n ∷ ns) (shift r)
+shift-in : (n : ℕ) (ns : List ℕ) (r : Choice) → Inside ns r → Inside (n ∷ ns) (shiftPool r)
 shift-in n ns tooLarge h = tt
 shift-in n ns (allTaken k) h = tt
 shift-in n ns (into k i) h = h
@@ -88,7 +88,7 @@ pub choose-in : (ps : List Pool) (n : ℕ) → Inside (shape ps) (choose false p
 unfolding shape choose
 choose-in [] n = tt
 choose-in (p ∷ ps) n =
-    pick-in (leb n (p .size)) (length (p .slots)) (shape ps) (lowest (p .slots)) (shift (choose false ps n)) (lowest-below (p .slots))
+    pick-in (leb n (p .size)) (length (p .slots)) (shape ps) (lowest (p .slots)) (shiftPool (choose false ps n)) (lowest-below (p .slots))
     (shift-in (length (p .slots)) (shape ps) (choose false ps n) (choose-in ps n))
 
 -- Their addresses: at most 256 subpools, of at most 256 slots each

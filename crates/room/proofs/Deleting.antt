@@ -1,9 +1,9 @@
 -- The deletions on the smaller scheduler and on the larger.
 use Prim.Native.Nat.{ℕ}
-use Rattle.deletions.specs.Deleting.{Swept, clearIn, deleteWindowIn, disabled, resetIn, sweep, swept, unswept}
+use Rattle.deletions.specs.Deleting.{Swept, clearIn, deleteWindowIn, enabledAs, resetIn, sweep, swept, unswept}
 use Rattle.by_id.specs.ById.{deleteByIdIn, deleteKeepingIn, freed, takeIn}
 use Rattle.windows.specs.Windowing.{windowOf, windowed}
-use Rattle.windows.specs.declared.Window.{Window}
+use Rattle.windows.specs.declared.TimeWindow.{TimeWindow}
 use Rattle.room.proofs.Alike.{Left, answers, by-test, refuses}
 use Rattle.room.proofs.Entries.{Slots, filter-slots, slot-at, without-slots}
 use Rattle.room.proofs.Grow.{Slotted, grow, shape}
@@ -63,9 +63,9 @@ module _ (ns ks : List ℕ) where
 
   pub resets : (s : State) → Fit ns s → Same ns ks (resetIn s) (resetIn (grown ks s))
   unfolding resetIn
-  resets s f = clears (s .entries) [] (disabled s) (f .shaped) (f .named) tt
+  resets s f = clears (s .entries) [] (enabledAs false s) (f .shaped) (f .named) tt
 
-  pub windows : (w : Window) (s : State) → Fit ns s → Same ns ks (deleteWindowIn w s) (deleteWindowIn w (grown ks s))
+  pub windows : (w : TimeWindow) (s : State) → Fit ns s → Same ns ks (deleteWindowIn w s) (deleteWindowIn w (grown ks s))
   unfolding deleteWindowIn windowed
   windows w s f =
       by-test _ _ _ _ _ _ _ (refuses _ _ _)

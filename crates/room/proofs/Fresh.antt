@@ -1,4 +1,5 @@
 -- A fresh larger store is a fresh smaller one with fresh slots behind, and what the smaller setup says of its slots.
+use Rattle.rules.proofs.Each.{length-each}
 use Prim.Native.Nat.{_+_, _-_, _<_, _≤_, suc, zero, ℕ}
 use Rattle.room.proofs.Choosing.{Narrow}
 use Rattle.room.proofs.Grow.{NamedAt, Slotted, grow, shape}
@@ -11,12 +12,12 @@ use Rattle.store.specs.Calls.{freshPool, freshPools}
 use Rattle.layout.specs.Judge.{poolOkAt, setupOk as storeSetupOk}
 use Rattle.layout.specs.Layout.{slotsAt}
 use Rattle.slots.specs.Pools.{Pool, free}
-use Rattle.slots.specs.View.{each}
+use Rattle.rules.specs.Lists.{each}
 use borrow.Author.Tests.{leb-true}
 use lib.ListN.{length, length-replicate, replicate, replicate-append-replicate}
 use mathlib.Core.Bool.{true}
 use mathlib.Core.List.{List, _++_}
-use mathlib.Core.Path.{_≡_, ap, refl}
+use mathlib.Core.Path.{_≡_, refl}
 use native.Mathlib.Nat.{not-suc-le-zero}
 use native.Mathlib.Omega.{arith}
 
@@ -38,11 +39,6 @@ narrow-each : (f : ℕ → ℕ) (n i : ℕ) → ((k : ℕ) → k < i + n → f k
 unfolding each
 narrow-each f zero i h = tt
 narrow-each f (suc n) i h = (h i (omega arith), narrow-each f n (suc i) (λ k l. h k (omega arith)))
-
-length-each : (f : ℕ → ℕ) (n i : ℕ) → length (each f i n) ≡ n
-unfolding each
-length-each f zero i = refl
-length-each f (suc n) i = ap suc (length-each f n (suc i))
 
 named-each : (f : ℕ → ℕ) (n i k t s : ℕ) → i + k ≡ t → k < n → s < f t → NamedAt (each f i n) k s
 unfolding each

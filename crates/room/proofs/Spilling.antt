@@ -12,7 +12,7 @@ use Rattle.layout.specs.Judge.{lastSize, setupOk as storeSetupOk}
 use Rattle.layout.specs.Layout.{bytesBefore}
 use Rattle.slots.specs.Pools.{choose, findAt, over}
 use Rattle.store.specs.Edits.{editAt}
-use Rattle.slots.specs.View.{each}
+use Rattle.rules.specs.Lists.{each}
 use lib.IntN.{pos}
 use lib.ListN.{getD, replicate}
 use mathlib.Core.Bool.{Bool, true}

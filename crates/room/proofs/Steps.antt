@@ -14,7 +14,7 @@ use Rattle.schedule.specs.State.{State, recordOf, withPools}
 use Rattle.schedule.specs.declared.Setup.{Setup}
 use Rattle.schedule.specs.Counting.{countIn}
 use Rattle.windows.specs.Windowing.{retrieveIn}
-use Rattle.windows.specs.declared.Window.{Window}
+use Rattle.windows.specs.declared.TimeWindow.{TimeWindow}
 use Rattle.record.specs.Record.{clockIn, markIn}
 use Rattle.scheduler.specs.Steps.{Request, Stepped, add, carried, count, delete, deleteById, deleteKeeping, deleteWindow, disable, enable, hasElementAt, insertStored, insertUnwrapped, insertWrapped, lenOfData, looked, modify, read, reset, retrieve, setClock, step, tick, ticked}
 use Rattle.tick.specs.Tick.{Logged}
@@ -40,7 +40,7 @@ counts : (ks : List ℕ) (s : State) → countIn (grown ks s) ≡ countIn s
 unfolding countIn
 counts ks s = refl
 
-retrieves : (ks : List ℕ) (w : Window) (s : State) → retrieveIn w (grown ks s) ≡ retrieveIn w s
+retrieves : (ks : List ℕ) (w : TimeWindow) (s : State) → retrieveIn w (grown ks s) ≡ retrieveIn w s
 unfolding retrieveIn
 retrieves ks w s = refl
 

@@ -1,4 +1,5 @@
--- What the contracts of private functions cite. A reader need not believe this: the public calls' promises do not name it.
+-- Faults that judging the rows counts.
+-- A reader need not believe this file: contracts below the public calls cite it, no public call's promise does.
 use Prim.Native.Nat.{_*_, _+_, _<_, _≤_, ℕ}
 use Rattle.time.specs.Time.{giga}
 use mathlib.Core.Path.{_≡_}

@@ -9,8 +9,8 @@ use mathlib.Core.List.{List, [], _∷_}
 use mathlib.Core.Path.{_≡_}
 
 -- "Sizes": 1-4,096 entries
-abbrev pub mostEntries : ℕ
-mostEntries = 4096
+abbrev pub maxEntries : ℕ
+maxEntries = 4096
 
 -- seconds of at most 2^43 (2^42, counted from -2^42), and nanoseconds below a second's
 abbrev pub inRange : Entry → Bool
@@ -31,5 +31,5 @@ pub record Held (w : List ℕ) (n : ℕ) : Type 0 where
 -- and were judged
 pub record Sound (w : List ℕ) (n : ℕ) : Type 0 where
   pub room : n * width ≤ length w
-  pub few : n ≤ mostEntries
+  pub few : n ≤ maxEntries
   pub kept : ordered (unpack n w) ≡ true

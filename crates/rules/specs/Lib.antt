@@ -1,3 +1,4 @@
 -- What the other crates' definitions are written in.
 pub mod Tests
+pub mod Lists
 pub mod Papers

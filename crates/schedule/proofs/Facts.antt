@@ -12,7 +12,7 @@ use Rattle.rules.proofs.All.{all-each, and-left, and-right}
 use Rattle.layout.proofs.Bounds.{buffers-fit}
 use Rattle.layout.specs.Judge.{Sized, Sound as StoreSound, setupOk as storeSetupOk}
 use Rattle.rows.specs.Entries.{unpack, width}
-use Rattle.rows.specs.Order.{mostEntries, ordered, Sound as TableSound}
+use Rattle.rows.specs.Order.{maxEntries, ordered, Sound as TableSound}
 use Rattle.time.proofs.Judged.{margin-judged, time-judged}
 use Rattle.time.specs.Time.{InRange, MarginInRange, inRange, marginInRange}
 use Rattle.schedule.specs.Inside.{Long}
@@ -22,7 +22,7 @@ use Rattle.schedule.specs.declared.Setup.{Setup}
 pub record Facts (su : Setup) (r : Record) (st le ro : List ℕ) : Type 0 where
   pub store : StoreSound (su .store) st le
   pub some : 1 ≤ su .entries
-  pub few : su .entries ≤ mostEntries
+  pub few : su .entries ≤ maxEntries
   pub room : su .entries * width ≤ length ro
   pub count : r .count ≤ su .entries
   pub clock : InRange (r .clock)
@@ -51,7 +51,7 @@ pub table-sound : {su : Setup} {r : Record} {st le ro : List ℕ} → Facts su r
 table-sound f = record { room = omega arith; few = omega arith; kept = f .kept }
 
 -- what a good setup says by itself
-pub setup-facts : (su : Setup) → setupOk su ≡ true → (storeSetupOk (su .store) ≡ true) × (1 ≤ su .entries) × (su .entries ≤ mostEntries)
+pub setup-facts : (su : Setup) → setupOk su ≡ true → (storeSetupOk (su .store) ≡ true) × (1 ≤ su .entries) × (su .entries ≤ maxEntries)
 unfolding setupOk
 setup-facts su e = let a = all-each _ e in (a .0, leb-true _ _ (a .1 .0), leb-true _ _ (a .1 .1 .0))
 

@@ -1,4 +1,5 @@
--- What the contracts of private functions cite. A reader need not believe this: the public calls' promises do not name it.
+-- What the test of 3 asks, and what judging a fresh start answers.
+-- A reader need not believe this file: contracts below the public calls cite it, no public call's promise does.
 use Prim.Native.Nat.{_*_, _≤_, ℕ}
 use mathlib.Core.Bool.{true}
 use mathlib.Core.List.{[]}

@@ -11,7 +11,7 @@ use Rattle.rules.specs.Papers.{Outcome, done, judgedBy, says}
 use Rattle.rules.specs.Tests.{allOf}
 use Rattle.layout.specs.Judge.{buffersOk as storeBuffersOk, lensOk, setupOk as storeSetupOk}
 use Rattle.rows.specs.Entries.{unpack, width}
-use Rattle.rows.specs.Order.{mostEntries, ordered}
+use Rattle.rows.specs.Order.{maxEntries, ordered}
 use Rattle.schedule.specs.Answers.{verdictPaper}
 use Rattle.schedule.specs.State.{State, stateOf}
 use Rattle.schedule.specs.declared.Setup.{Setup}
@@ -19,7 +19,7 @@ use Rattle.schedule.specs.declared.Verdict.{Verdict}
 
 -- 1, BadSetup: the store's sizes, and 1 to 4,096 entries
 unfoldable pub setupOk : Setup → Bool
-setupOk su = allOf (storeSetupOk (su .store) ∷ leb 1 (su .entries) ∷ leb (su .entries) mostEntries ∷ [])
+setupOk su = allOf (storeSetupOk (su .store) ∷ leb 1 (su .entries) ∷ leb (su .entries) maxEntries ∷ [])
 
 -- 2, BadBuffers: by the lengths of the lent store, length table and rows
 unfoldable pub buffersOk : Setup → ℕ → ℕ → ℕ → Bool

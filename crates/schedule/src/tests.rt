@@ -9,7 +9,7 @@ ghost use Rattle.schedule.specs.Inside.{Long};
 ghost use Rattle.schedule.specs.Judge.{buffersOk, setupOk, stateOk};
 
 // 1-4,096 entries.
-const MOST_ENTRIES: usize = 4096;
+const MAX_ENTRIES: usize = 4096;
 
 pub fn setup_ok(setup: Setup) -> bool
     ensures { λ r. ⌜ r ≡ setupOk setup ⌝ }
@@ -22,7 +22,7 @@ pub fn setup_ok(setup: Setup) -> bool
     if setup.entries < 1 {
         return false;
     }
-    setup.entries <= MOST_ENTRIES
+    setup.entries <= MAX_ENTRIES
 }
 
 pub fn buffers_ok(setup: Setup, room: usize, lens: usize, rows: usize) -> bool

@@ -1,4 +1,5 @@
--- A reader need not believe this file: no promise of a call of the C face cites it. A short record's refusal, and an answer that carries another.
+-- A short record's refusal, and an answer that carries another.
+-- A reader need not believe this file: contracts below the public calls cite it, no public call's promise does.
 use Prim.Native.Nat.{ℕ}
 use Rattle.face_reading.specs.Reading.{word}
 use Rattle.rules.specs.Papers.{Paper, no}

@@ -5,7 +5,7 @@ use by_id::Taken;
 use deletions::Cleared;
 use lent::Lent;
 use record::Record;
-use windows::Window;
+use windows::TimeWindow;
 
 pub fn run(
     b: Lent,
@@ -39,7 +39,7 @@ pub fn run(
 fn windowed(
     b: Lent,
     k: usize,
-    w: Window,
+    w: TimeWindow,
     store: &mut [u8],
     lens: &mut [u16],
     rows: &mut [u64],
@@ -66,19 +66,19 @@ fn windowed(
 }
 
 // all; fromto and two times; from or to and a time.
-fn window(text: &[u8]) -> Window {
+fn window(text: &[u8]) -> TimeWindow {
     let k = line::which(text, 1, b"fromto from to all");
     let t = line::time(text, 2);
     if k == 0 {
-        return Window::FromTo(t, line::time(text, 4));
+        return TimeWindow::FromTo(t, line::time(text, 4));
     }
     if k == 1 {
-        return Window::From(t);
+        return TimeWindow::From(t);
     }
     if k == 2 {
-        return Window::To(t);
+        return TimeWindow::To(t);
     }
-    Window::All
+    TimeWindow::All
 }
 
 fn cleared(c: Cleared) -> Record {

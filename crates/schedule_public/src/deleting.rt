@@ -9,7 +9,7 @@ use record::Record;
 use schedule::Setup;
 use schedule::Verdict;
 use windows::Retrieved;
-use windows::Window;
+use windows::TimeWindow;
 ghost use mathlib.Core.Path.{_≡_};
 ghost use Rattle.rules.specs.Papers.{says};
 ghost use Rattle.schedule.specs.Judge.{judging};
@@ -28,7 +28,7 @@ pub fn retrieve_by_time_filter(
     store: &[u8],
     lens: &[u16],
     rows: &[u64],
-    w: Window,
+    w: TimeWindow,
 ) -> Retrieved
     ensures { λ r. ⌜ retrievedPaper r
         ≡ says (judging setup rec (now (store .entry)) (now (lens .entry)) (now (rows .entry)) (retrieveIn w)) ⌝ }
@@ -47,7 +47,7 @@ pub fn delete_by_time_filter(
     store: &mut [u8],
     lens: &mut [u16],
     rows: &mut [u64],
-    w: Window,
+    w: TimeWindow,
 ) -> Cleared
     ensures { λ c. ⌜ Writes setup rec (now (store .entry)) (now (lens .entry)) (now (rows .entry))
         (judging setup rec (now (store .entry)) (now (lens .entry)) (now (rows .entry)) (deleteWindowIn w))

@@ -4,7 +4,7 @@ use Prim.Native.Nat.{_<_, _≤_, suc, zero-le, ℕ}
 use Rattle.deletions.specs.Deleting.{Swept, clearIn, deleteWindowIn, resetIn, sweep, swept, unswept}
 use Rattle.by_id.specs.ById.{deleteByIdIn, deleteKeepingIn, freed, takeIn}
 use Rattle.windows.specs.Windowing.{windowOf, windowed}
-use Rattle.windows.specs.declared.Window.{Window}
+use Rattle.windows.specs.declared.TimeWindow.{TimeWindow}
 use Rattle.insertions.specs.Inserting.{activity, entered, insertUnwrappedIn}
 use Rattle.gate.specs.Entering.{enter, insertStoredIn, timed}
 use Rattle.wrapped.specs.Wrapped.{insertWrappedIn, opened, stamped}
@@ -200,7 +200,7 @@ module _ (su : Setup) (s : State) (f : Fits su s) where
       let x = sweep gone (unswept (s .pools)) in
       with-entries su (withPools (x .pools) s) left (with-pools su s (x .pools) f (sweep-fits su gone (unswept (s .pools)) (f .pools))) k n
 
-  pub window-gives : (w : Window) → Gives su (deleteWindowIn w s)
+  pub window-gives : (w : TimeWindow) → Gives su (deleteWindowIn w s)
   unfolding deleteWindowIn windowed
   window-gives w =
       either su _ _ _ tt

@@ -1,5 +1,6 @@
 -- Subpools that fit the setup, laid out as the two lent lists, are read back as they were; and what is read from sound lists fits.
 -- Assumes nothing.
+use Rattle.rules.proofs.Each.{length-each}
 use Prim.Native.Nat.{_*_, _+_, _<_, _≤_, suc, zero, ℕ}
 use Rattle.rules.proofs.All.{all-at, all-each}
 use Rattle.scheduler.proofs.Subpools.{each-fits}
@@ -12,7 +13,8 @@ use Rattle.layout.specs.Judge.{Sized, Sound, poolOkAt, setupOk}
 use Rattle.layout.specs.Layout.{allBytes, allRows, bytesBefore, rowsBefore, sizeAt, slotsAt}
 use Rattle.layout.specs.Limits.{maxSlotSize, storeFree}
 use Rattle.slots.specs.Pools.{Pool, Slot, free, taken}
-use Rattle.slots.specs.View.{Leaves, bytesAt, bytesOf, each, lenAt, lenOf, lensOf, lensWith, marked, part, poolIn, rawOf, slotBytes, slotFrom, slotIn, slotLens, storeWith, view}
+use Rattle.slots.specs.View.{Leaves, bytesAt, poolBytes, lenAt, lenOf, poolLens, lensWith, marked, part, poolIn, rawOf, slotBytes, slotFrom, slotIn, slotLens, storeWith, view}
+use Rattle.rules.specs.Lists.{each}
 use Rattle.layout.specs.declared.Setup.{Setup}
 use Rattle.store_laws.proofs.Fitting.{AllFit, Fitting}
 use borrow.Author.Tests.{eqb-false, leb-true}
@@ -84,11 +86,6 @@ unfolding each
 slots-each f z zero i h = tt
 slots-each f z (suc n) i h = (h i (omega arith), slots-each f z n (suc i) (λ t l. h t (omega arith)))
 
-each-many : {A : Type 0} (f : ℕ → A) (n i : ℕ) → length (each f i n) ≡ n
-unfolding each
-each-many f zero i = refl
-each-many f (suc n) i = ap suc (each-many f n (suc i))
-
 -- ---- the subpools
 
 module _ (su : Setup) where
@@ -105,20 +102,20 @@ module _ (su : Setup) where
   pool-lens : (k : ℕ) (p : Pool) → PoolFits su k p → length (slotLens (p .slots)) ≡ slotsAt su k
   pool-lens k p h = slots-lens (p .slots) ∙ h .number
 
-  bytes-many : (ps : List Pool) (k : ℕ) → PoolsFit su k ps → bytesBefore su k + length (bytesOf ps) ≡ allBytes su
-  unfolding bytesBefore bytesOf
+  bytes-many : (ps : List Pool) (k : ℕ) → PoolsFit su k ps → bytesBefore su k + length (poolBytes ps) ≡ allBytes su
+  unfolding bytesBefore poolBytes
   bytes-many [] k h = let e = ap (bytesBefore su) h in omega arith
   bytes-many (p ∷ ps) k h =
       let r = bytes-many ps (suc k) (h .1) in
-      let a = length-append (slotBytes (p .slots)) (bytesOf ps) in
+      let a = length-append (slotBytes (p .slots)) (poolBytes ps) in
       omega (arith, pool-bytes k p (h .0))
 
-  lens-many : (ps : List Pool) (k : ℕ) → PoolsFit su k ps → rowsBefore su k + length (lensOf ps) ≡ allRows su
-  unfolding rowsBefore lensOf
+  lens-many : (ps : List Pool) (k : ℕ) → PoolsFit su k ps → rowsBefore su k + length (poolLens ps) ≡ allRows su
+  unfolding rowsBefore poolLens
   lens-many [] k h = let e = ap (rowsBefore su) h in omega arith
   lens-many (p ∷ ps) k h =
       let r = lens-many ps (suc k) (h .1) in
-      let a = length-append (slotLens (p .slots)) (lensOf ps) in
+      let a = length-append (slotLens (p .slots)) (poolLens ps) in
       omega (arith, pool-lens k p (h .0))
 
   small-sizes : setupOk su ≡ true → (k : ℕ) → k < su .pools → sizeAt su k < storeFree
@@ -140,26 +137,26 @@ module _ (su : Setup) where
         (ap (λ (m : ℕ). drop m le) f ∙ r))
 
     pools-back : (ps : List Pool) (k n : ℕ) (rb rl : List ℕ) → k + n ≡ su .pools → PoolsFit su k ps
-        → drop (bytesBefore su k) st ≡ bytesOf ps ++ rb → drop (rowsBefore su k) le ≡ lensOf ps ++ rl
+        → drop (bytesBefore su k) st ≡ poolBytes ps ++ rb → drop (rowsBefore su k) le ≡ poolLens ps ++ rl
         → each (poolIn su st le) k n ≡ ps
-    unfolding each bytesOf lensOf bytesBefore rowsBefore
+    unfolding each poolBytes poolLens bytesBefore rowsBefore
     pools-back [] k zero rb rl e h b r = refl
     pools-back [] k (suc n) rb rl e h b r = absurd (omega arith)
     pools-back (p ∷ ps) k zero rb rl e h b r = let m = fit-le ps (suc k) (h .1) in absurd (omega arith)
     pools-back (p ∷ ps) k (suc n) rb rl e h b r =
-        let b₁ = b ∙ append-assoc (slotBytes (p .slots)) (bytesOf ps) rb in
-        let r₁ = r ∙ append-assoc (slotLens (p .slots)) (lensOf ps) rl in
+        let b₁ = b ∙ append-assoc (slotBytes (p .slots)) (poolBytes ps) rb in
+        let r₁ = r ∙ append-assoc (slotLens (p .slots)) (poolLens ps) rl in
         ap₂ _∷_ (pool-back p k _ _ (omega arith) (h .0) b₁ r₁)
         (pools-back ps (suc k) n rb rl (omega arith) (h .1) (behind _ _ _ st (slotBytes (p .slots)) _ b₁ (pool-bytes k p (h .0)) refl)
         (behind _ _ _ le (slotLens (p .slots)) _ r₁ (pool-lens k p (h .0)) refl))
 
 -- what a public call writes: the lists stand for the subpools, and nothing else moved
 module _ (su : Setup) (st le : List ℕ) (ps : List Pool) (s : Sized su st le) (h : PoolsFit su 0 ps) where
-  all-bytes : length (bytesOf ps) ≡ allBytes su
+  all-bytes : length (poolBytes ps) ≡ allBytes su
   unfolding bytesBefore
   all-bytes = omega (arith, bytes-many su ps 0 h)
 
-  all-lens : length (lensOf ps) ≡ allRows su
+  all-lens : length (poolLens ps) ≡ allRows su
   unfolding rowsBefore
   all-lens = omega (arith, lens-many su ps 0 h)
 
@@ -175,8 +172,8 @@ module _ (su : Setup) (st le : List ℕ) (ps : List Pool) (s : Sized su st le) (
       let n = all-lens in
       record {
         seen = seen-laid;
-        beyond = drop-at (bytesOf ps) (drop (allBytes su) st) (allBytes su) m;
-        beyond-lens = drop-at (lensOf ps) (drop (allRows su) le) (allRows su) n;
+        beyond = drop-at (poolBytes ps) (drop (allBytes su) st) (allBytes su) m;
+        beyond-lens = drop-at (poolLens ps) (drop (allRows su) le) (allRows su) n;
         same-length = simp (length-append, length-drop) (omega (arith, f .1));
         same-rows = simp (length-append, length-drop) (omega (arith, f .2));
       }
@@ -188,7 +185,7 @@ view-fits su st le s =
     each-fits su (poolIn su st le) (su .pools) 0 (omega arith)
     (λ k l. record {
       size = refl;
-      number = each-many _ (slotsAt su k) 0;
+      number = length-each _ (slotsAt su k) 0;
       slots = slots-each _ (sizeAt su k) (slotsAt su k) 0
           (λ i m. let w = within su (length st) le (bounds s) k i l (omega arith) in
           slot-fits (sizeAt su k) _ _ (bounds s .rows k i l (omega arith)) (part-length _ (sizeAt su k) st (w .bytes-fit)));

@@ -3,7 +3,7 @@ use Prim.Native.Nat.{_≤_, ℕ}
 use Rattle.deletions.specs.Deleting.{clearIn, deleteWindowIn, resetIn}
 use Rattle.by_id.specs.ById.{deleteByIdIn, deleteKeepingIn, freed, takeIn}
 use Rattle.windows.specs.Windowing.{retrieveIn, windowed}
-use Rattle.windows.specs.declared.Window.{Window}
+use Rattle.windows.specs.declared.TimeWindow.{TimeWindow}
 use Rattle.insertions.specs.Inserting.{activity, entered, insertUnwrappedIn}
 use Rattle.gate.specs.Entering.{enter, insertStoredIn, timed}
 use Rattle.wrapped.specs.Wrapped.{insertWrappedIn, opened, stamped}
@@ -24,7 +24,7 @@ use Rattle.stamp.specs.declared.Stamp.{Stamp}
 use Rattle.store.specs.Calls.{addIn, deleteIn, place}
 use Rattle.lookup.specs.Calls.{hasIn, ifHeld, ifNamed, lenIn, packetIn, readIn}
 use Rattle.slots.specs.Pools.{Choice, Found, Pool, allTaken, choose, find, held, into as inSlot, noPool, noSlot, tooLarge, vacant}
-use Rattle.selection.specs.declared.TimeWindow.{TimeWindow}
+use Rattle.selection.specs.declared.MomentWindow.{MomentWindow}
 use Rattle.tick.specs.Tick.{handedOut, tickIn}
 use Rattle.time.specs.declared.UnixTime.{UnixTime}
 use lib.ListN.{drop, length}
@@ -168,15 +168,15 @@ module _ (su : Setup) where
 
 -- ---- windows, deletions, the tick
 
-own-windowed : {A : Type 0} (w : Window) (call : TimeWindow → Outcome A) → ((v : TimeWindow) → Own (call v)) → Own (windowed w call)
+own-windowed : {A : Type 0} (w : TimeWindow) (call : MomentWindow → Outcome A) → ((v : MomentWindow) → Own (call v)) → Own (windowed w call)
 unfolding windowed
 own-windowed w call h = own-unless _ _ _ (omega arith) (omega arith) (own-unless _ _ _ (omega arith) (omega arith) (h _))
 
-pub own-retrieve : (w : Window) (s : State) → Own (retrieveIn w s)
+pub own-retrieve : (w : TimeWindow) (s : State) → Own (retrieveIn w s)
 unfolding retrieveIn
 own-retrieve w s = own-windowed w _ (λ v. tt)
 
-pub own-window : (w : Window) (s : State) → Own (deleteWindowIn w s)
+pub own-window : (w : TimeWindow) (s : State) → Own (deleteWindowIn w s)
 unfolding deleteWindowIn clearIn
 own-window w s = own-windowed w _ (λ v. tt)
 

@@ -3,7 +3,7 @@ use Prim.Native.Nat.{ℕ}
 use Rattle.deletions.specs.Deleting.{deleteWindowIn, resetIn}
 use Rattle.by_id.specs.ById.{deleteByIdIn, deleteKeepingIn}
 use Rattle.windows.specs.Windowing.{retrieveIn}
-use Rattle.windows.specs.declared.Window.{Window}
+use Rattle.windows.specs.declared.TimeWindow.{TimeWindow}
 use Rattle.insertions.specs.Inserting.{insertUnwrappedIn}
 use Rattle.gate.specs.Entering.{insertStoredIn}
 use Rattle.wrapped.specs.Wrapped.{insertWrappedIn}
@@ -31,7 +31,7 @@ use Rattle.lookup.specs.Calls.{hasIn, ifHeld, ifNamed, judging as storeJudging,
 use Rattle.layout.specs.Judge.{Sound as StoreSound}
 use Rattle.slots.specs.Pools.{Pool, find, held}
 use Rattle.store.specs.Promise.{Writes as StoreWrites}
-use Rattle.lookup.specs.Promise.{Reads, startOf}
+use Rattle.lookup.specs.Promise.{Reads, packetStart}
 use Rattle.slots.specs.View.{Leaves, put, view}
 use Rattle.store_laws.proofs.Reached.{add-done, delete-done, modify-leaves}
 use Rattle.store_laws.proofs.StaysSound.{modify-stays, public-add-stays, public-delete-stays}
@@ -74,7 +74,7 @@ module _ (su : Setup) (r : Record) (st le ro : List ℕ) (s : Sound su r st le r
   unfolding step
   wrapped-steps tc b w = does-step (insertWrapped tc) (insertWrappedIn su tc) (λ x f. wrapped-gives su x f tc b) (λ x. refl) w
 
-  pub window-steps : (v : Window) → Writes su r st le ro (judging su r st le ro (deleteWindowIn v)) p r′ st′ le′ ro′
+  pub window-steps : (v : TimeWindow) → Writes su r st le ro (judging su r st le ro (deleteWindowIn v)) p r′ st′ le′ ro′
       → StepsAs su r st le ro (deleteWindow v) p r′ st′ le′ ro′
   unfolding step
   window-steps v w = does-step (deleteWindow v) (deleteWindowIn v) (λ x f. window-gives su x f v) (λ x. refl) w
@@ -208,7 +208,7 @@ module _ (su : Setup) (r : Record) (st le ro : List ℕ) (s : Sound su r st le r
 -- ys was written through the part that `modify_part` lends at an address that holds a packet
 pub modify-steps : (su : Setup) (r : Record) (st le ro : List ℕ) → Sound su r st le ro → (a n : ℕ) (raw ys : List ℕ)
     → find (view (su .store) st le) a ≡ held n raw → length ys ≡ n
-    → StepsAs su r st le ro (modify a ys) (no 0 (n ∷ [])) r (put (startOf (su .store) a) n ys st) le ro
+    → StepsAs su r st le ro (modify a ys) (no 0 (n ∷ [])) r (put (packetStart (su .store) a) n ys st) le ro
 unfolding step carried stateOf packetIn ifHeld ifNamed into says after
 modify-steps su r st le ro s a n raw ys q e =
     let k = facts s .store in
@@ -226,7 +226,7 @@ module _ (su : Setup) (r : Record) (st le ro : List ℕ) (s : Sound su r st le r
   unfolding step looked
   count-tells e = rw (judging-fine su r st le ro countIn s) at e
 
-  pub retrieve-tells : (w : Window) → p ≡ says (judging su r st le ro (retrieveIn w))
+  pub retrieve-tells : (w : TimeWindow) → p ≡ says (judging su r st le ro (retrieveIn w))
       → p ≡ step su (retrieve w) (stateOf su r st le ro) .answer .paper
   unfolding step looked
   retrieve-tells w e = rw (judging-fine su r st le ro (retrieveIn w) s) at e

@@ -11,7 +11,7 @@ use Rattle.lookup.specs.Calls.{ifHeld, ifNamed}
 use Rattle.layout.specs.Layout.{sizeAt, slotsAt}
 use Rattle.slots.specs.Pools.{Choice, Found, Pool, Slot, allTaken, choose, find, free, held, into, noPool, noSlot, taken, tooLarge, vacant}
 use Rattle.store.specs.Edits.{edit, editAt, editSlot, fill, rewrite, wipe}
-use Rattle.slots.specs.View.{each}
+use Rattle.rules.specs.Lists.{each}
 use Rattle.layout.specs.declared.Setup.{Setup}
 use lib.ListN.{length, length-replicate, length-take, replicate, take}
 use mathlib.Core.Bool.{Bool}

@@ -5,7 +5,7 @@ use mathlib.Core.List.{List, [], _∷_}
 use Rattle.deletions.specs.Deleting.{deleteWindowIn, resetIn}
 use Rattle.by_id.specs.ById.{deleteByIdIn, deleteKeepingIn}
 use Rattle.windows.specs.Windowing.{retrieveIn}
-use Rattle.windows.specs.declared.Window.{Window}
+use Rattle.windows.specs.declared.TimeWindow.{TimeWindow}
 use Rattle.insertions.specs.Inserting.{insertUnwrappedIn}
 use Rattle.gate.specs.Entering.{insertStoredIn}
 use Rattle.wrapped.specs.Wrapped.{insertWrappedIn}
@@ -36,7 +36,7 @@ pub data Request : Type 0 where
   insertWrapped : List ℕ → Request
   insertUnwrapped : UnixTime → List ℕ → Request
   insertStored : UnixTime → ℕ → ℕ → Request
-  retrieve deleteWindow : Window → Request
+  retrieve deleteWindow : TimeWindow → Request
   reset : Request
   deleteKeeping deleteById : ℕ → Request
   -- the tick: the limit on records, whether packets are deleted, and the log that is lent

@@ -21,8 +21,8 @@ use mathlib.Core.Logic.{⊎-elim}
 use mathlib.Core.Path.{_∙_, _≡_, ap, refl, sym}
 use native.Mathlib.Omega.{arith}
 use Rattle.time.specs.declared.Moment.{Moment}
-use Rattle.selection.specs.declared.TimeWindow.{TimeWindow}
-use Rattle.selection.specs.declared.TimeWindow.the-variants.{All, From, FromTo, To}
+use Rattle.selection.specs.declared.MomentWindow.{MomentWindow}
+use Rattle.selection.specs.declared.MomentWindow.the-variants.{All, From, FromTo, To}
 
 -- later than every time in range
 abbrev top : ℕ
@@ -30,13 +30,13 @@ top = (far + far + 1) * giga
 
 -- ---- a window as a span
 
-pub low : TimeWindow → ℕ
+pub low : MomentWindow → ℕ
 low All = 0
 low (FromTo f t) = instantOf f
 low (From f) = instantOf f
 low (To t) = 0
 
-pub high : TimeWindow → ℕ
+pub high : MomentWindow → ℕ
 high All = top
 high (FromTo f t) = instantOf t + 1
 high (From f) = top
@@ -48,7 +48,7 @@ leb-ltb a b =
     (λ (h : b < a). lt-leb a b h ∙ sym (le-ltb a (b + 1) (omega arith)))
     (le-or-lt a b)
 
-pub within-is : (w : TimeWindow) (e : Entry) → InRange e → within w e ≡ between (low w) (high w) e
+pub within-is : (w : MomentWindow) (e : Entry) → InRange e → within w e ≡ between (low w) (high w) e
 unfolding within between low high
 within-is All e r =
     let s = r .secs-le in
@@ -70,21 +70,21 @@ below-all u (e ∷ es) o =
     below-head top e es (omega arith) ∙ ap suc (below-all (time e) es (a .rest))
 
 module _ (es : List Entry) (o : ordered es ≡ true) where
-  pub start-is : (w : TimeWindow) → startOf w es ≡ below (low w) es
+  pub start-is : (w : MomentWindow) → startOf w es ≡ below (low w) es
   unfolding startOf low
   start-is All = sym (below-none 0 0 es o (omega arith))
   start-is (FromTo f t) = refl
   start-is (From f) = refl
   start-is (To t) = sym (below-none 0 0 es o (omega arith))
 
-  pub end-is : (w : TimeWindow) → endOf w es ≡ below (high w) es
+  pub end-is : (w : MomentWindow) → endOf w es ≡ below (high w) es
   unfolding endOf high
   end-is All = sym (below-all 0 es o)
   end-is (FromTo f t) = refl
   end-is (From f) = sym (below-all 0 es o)
   end-is (To t) = refl
 
-  module _ (w : TimeWindow) where
+  module _ (w : MomentWindow) where
     -- the window's entries are one unbroken range of the rows
     pub window-part : inWindow w es ≡ take (endOf w es - startOf w es) (drop (startOf w es) es)
     window-part =
@@ -111,7 +111,7 @@ module _ (es : List Entry) (o : ordered es ≡ true) where
         (eq-or-ne (length (inWindow w es)) 0)
 
 -- the forms that the code's two answers ask for
-module _ (n : ℕ) (rows : List ℕ) (o : ordered (unpack n rows) ≡ true) (w : TimeWindow) (a b : ℕ) (ea : a ≡ startOf w (unpack n rows))
+module _ (n : ℕ) (rows : List ℕ) (o : ordered (unpack n rows) ≡ true) (w : MomentWindow) (a b : ℕ) (ea : a ≡ startOf w (unpack n rows))
     (eb : b ≡ endOf w (unpack n rows)) where
   number-is : length (inWindow w (unpack n rows)) ≡ b - a
   number-is = rw (ea, eb) (window-number (unpack n rows) o w)
@@ -134,7 +134,7 @@ module _ (n : ℕ) (rows : List ℕ) (o : ordered (unpack n rows) ≡ true) (w :
 
 -- ---- by cases, for an argument of which the case is known
 
-module _ (w : TimeWindow) where
+module _ (w : MomentWindow) where
   pub ends-both : (f t : Moment) → w ≡ FromTo f t → EndsInRange w → MomentInRange f × MomentInRange t
   ends-both f t e h = rw e at h
 

@@ -5,7 +5,7 @@ pub mod find;
 pub mod window;
 
 // A window of time. Both ends belong to it.
-pub enum TimeWindow {
+pub enum MomentWindow {
     All,
     FromTo(Moment, Moment),
     From(Moment),

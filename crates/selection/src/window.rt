@@ -1,6 +1,6 @@
 // The rows of a window of time: one unbroken range, as the rows are in order.
+use crate::MomentWindow;
 use crate::Part;
-use crate::TimeWindow;
 use table::below;
 use table::up_to;
 ghost use mathlib.Core.Path.{_≡_};
@@ -9,7 +9,7 @@ ghost use Rattle.rows.specs.Order.{Sound};
 ghost use Rattle.selection.specs.Windows.{EndsInRange, Retrieves, endOf, startOf};
 
 // The first row of the window and the number of its rows; row 0 where it has none.
-pub fn rows_in(rows: &[u64], count: usize, w: TimeWindow) -> Part
+pub fn rows_in(rows: &[u64], count: usize, w: MomentWindow) -> Part
     requires { ⌜ Sound (now rows) count ⌝ }
     requires { ⌜ EndsInRange w ⌝ }
     ensures { λ r. ⌜ Retrieves w (now (rows .entry)) count (r .first) (r .number) ⌝ }
@@ -29,29 +29,29 @@ pub fn rows_in(rows: &[u64], count: usize, w: TimeWindow) -> Part
 }
 
 // How many rows are before the window.
-fn start(rows: &[u64], count: usize, w: TimeWindow) -> usize
+fn start(rows: &[u64], count: usize, w: MomentWindow) -> usize
     requires { ⌜ Sound (now rows) count ⌝ }
     requires { ⌜ EndsInRange w ⌝ }
     ensures { λ r. ⌜ r ≡ startOf w (unpack count (now (rows .entry))) ⌝ }
 {
     match w {
-        TimeWindow::All => 0,
-        TimeWindow::FromTo(f, _) => below(rows, count, f),
-        TimeWindow::From(f) => below(rows, count, f),
-        TimeWindow::To(_) => 0,
+        MomentWindow::All => 0,
+        MomentWindow::FromTo(f, _) => below(rows, count, f),
+        MomentWindow::From(f) => below(rows, count, f),
+        MomentWindow::To(_) => 0,
     }
 }
 
 // How many rows are not after the window.
-fn end(rows: &[u64], count: usize, w: TimeWindow) -> usize
+fn end(rows: &[u64], count: usize, w: MomentWindow) -> usize
     requires { ⌜ Sound (now rows) count ⌝ }
     requires { ⌜ EndsInRange w ⌝ }
     ensures { λ r. ⌜ r ≡ endOf w (unpack count (now (rows .entry))) ⌝ }
 {
     match w {
-        TimeWindow::All => count,
-        TimeWindow::FromTo(_, t) => up_to(rows, count, t),
-        TimeWindow::From(_) => count,
-        TimeWindow::To(t) => up_to(rows, count, t),
+        MomentWindow::All => count,
+        MomentWindow::FromTo(_, t) => up_to(rows, count, t),
+        MomentWindow::From(_) => count,
+        MomentWindow::To(t) => up_to(rows, count, t),
     }
 }

@@ -6,7 +6,7 @@ use Rattle.lookup.proofs.Judging.{judging-fine}
 use Rattle.lookup.specs.Calls.{ifHeld, ifNamed, judging, packetIn}
 use Rattle.layout.specs.Judge.{Sound}
 use Rattle.slots.specs.Pools.{Found, find, held, noPool, noSlot, vacant}
-use Rattle.lookup.specs.Promise.{Finds, foundAs, startOf}
+use Rattle.lookup.specs.Promise.{Finds, foundAs, packetStart}
 use Rattle.lookup.specs.Refusals.{paper}
 use Rattle.slots.specs.View.{view}
 use Rattle.layout.specs.declared.Setup.{Setup}
@@ -44,7 +44,7 @@ found-part a k vacant m bs e = let z : _≡_ {A = ℕ} 0 1 = cc in absurd (omega
 found-part a k (held n b) m bs e = cc
 
 module _ (su : Setup) (st le : List ℕ) (a : ℕ) (s : Sound su st le) (r : Whereabouts) (f : Finds su st le a r) where
-  whole : judging su st le (partIn a su) ≡ Placed a (startOf su a) (find (view su st le) a)
+  whole : judging su st le (partIn a su) ≡ Placed a (packetStart su a) (find (view su st le) a)
   unfolding partIn
   whole = judging-fine su st le (partIn a su) s
 
@@ -53,11 +53,11 @@ module _ (su : Setup) (st le : List ℕ) (a : ℕ) (s : Sound su st le) (r : Whe
   unfolding packetIn foundAs says
   part-refused e w q h =
       let g : refused (paper e) ≡ Packet a (find (view su st le) a) = rw q at (f .same) in
-      rw (whole, refused-part a (startOf su a) (find (view su st le) a) (paper e) g) h
+      rw (whole, refused-part a (packetStart su a) (find (view su st le) a) (paper e) g) h
 
   pub part-found : (v : Span) (w : Words) (x y : ℕ) → r ≡ W.At v → w ≡ wordsOf (no 0 (x ∷ y ∷ [])) → x ≡ v .from → y ≡ v .len
       → w ≡ wordsOf (says (judging su st le (partIn a su)))
   unfolding packetIn foundAs says
   part-found v w x y q h i j =
       let i′ = rw q at (f .inside) in
-      rw (whole, found-part a (startOf su a) (find (view su st le) a) (v .len) _ (rw q at (f .same))) (two-is h (i ∙ i′ .0) j)
+      rw (whole, found-part a (packetStart su a) (find (view su st le) a) (v .len) _ (rw q at (f .same))) (two-is h (i ∙ i′ .0) j)

@@ -4,7 +4,7 @@ use Rattle.rules.specs.Papers.{Outcome, after, done, no, refused}
 use Rattle.rules.specs.Tests.{unless}
 use Rattle.lookup.specs.Calls.{ifHeld, judging}
 use Rattle.slots.specs.Pools.{Pool, find}
-use Rattle.lookup.specs.Promise.{startOf}
+use Rattle.lookup.specs.Promise.{packetStart}
 use Rattle.slots.specs.View.{lensWith, storeWith}
 use Rattle.layout.specs.declared.Setup.{Setup}
 use mathlib.Core.List.{List, [], _∷_}
@@ -19,7 +19,7 @@ storeCall an sw st le call =
 
 -- part: where the packet's bytes start in the lent store, and their length; its refusals are modify's
 unfoldable pub partIn : ℕ → Setup → List Pool → Outcome (Unit {0})
-partIn a su ps = ifHeld a (find ps a) (λ n b. done (startOf su a ∷ n ∷ []) tt)
+partIn a su ps = ifHeld a (find ps a) (λ n b. done (packetStart su a ∷ n ∷ []) tt)
 
 -- a call that writes the store
 pub record StoreFaces (sw : List ℕ) (o : Outcome (List Pool)) (st le an : List ℕ) (n : ℕ) (st′ le′ an′ : List ℕ) : Type 0 where

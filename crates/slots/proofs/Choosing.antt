@@ -7,8 +7,9 @@ use Rattle.layout.specs.Limits.{storeFree}
 use Rattle.rules.proofs.First.{first-before, first-ge, first-passes}
 use Rattle.rules.specs.Tests.{firstFrom, unless}
 use Rattle.slots.specs.Inside.{cellOf, fits, freeRow, freeSlot, hasFree, lastTried, roomIn, roomOf}
-use Rattle.slots.specs.Pools.{Choice, Pool, Slot, allTaken, choose, free, into, lowest, next, pick, shift, spillInto, taken, tooLarge}
-use Rattle.slots.specs.View.{bytesAt, each, lenAt, marked, poolIn, slotFrom, slotIn, view}
+use Rattle.slots.specs.Pools.{Choice, Pool, Slot, allTaken, choose, free, into, lowest, next, pick, shiftPool, spillInto, taken, tooLarge}
+use Rattle.slots.specs.View.{bytesAt, lenAt, marked, poolIn, slotFrom, slotIn, view}
+use Rattle.rules.specs.Lists.{each}
 use borrow.Author.Tests.{le-leb, leb-true, lt-ltb, ltb-false, ltb-true}
 use lib.Dec.{eqb, leb, ltb}
 use lib.ListN.{getD}
@@ -70,7 +71,7 @@ module _ (f : ℕ → Pool) (len : ℕ) where
   Passed sp s = (leb len (f s .size) ≡ false) ⊎ ((sp ≡ true) × (lowest (f s .slots) ≡ none))
 
   pass : (sp : Bool) (s : ℕ) (r : Choice) (j i : ℕ) → Passed sp s → r ≡ into j i
-      → pick sp (leb len (f s .size)) (lowest (f s .slots)) (shift r) ≡ into (suc j) i
+      → pick sp (leb len (f s .size)) (lowest (f s .slots)) (shiftPool r) ≡ into (suc j) i
   unfolding Passed
   pass sp s r j i (inl e) q = rw (e, q)
   pass sp s r j i (inr e) q = rw (e .0, e .1, q) (go (leb len (f s .size)))
@@ -108,7 +109,7 @@ module _ (f : ℕ → Pool) (len : ℕ) where
   choose-all (suc n) k g =
       let h = g k (omega arith) (omega arith) in
       let r = choose-all n (suc k) (λ s a b. g s (omega arith) (omega arith)) in
-      rw (h .0, h .1) (ap (λ (x : Choice). spillInto true (shift x)) r)
+      rw (h .0, h .1) (ap (λ (x : Choice). spillInto true (shiftPool x)) r)
 
   past : (k n m : ℕ) → leb len (f k .size) ≡ false → choose true (each f (suc k) n) len ≡ allTaken m
       → choose true (each f k (suc n)) len ≡ allTaken (suc m)

@@ -3,7 +3,8 @@ use Prim.Native.Nat.{_+_, _<_, _≤_, suc, zero, ℕ}
 use Rattle.layout.specs.Layout.{rowsBefore, slotsAt}
 use Rattle.layout.specs.Limits.{storeFree}
 use Rattle.slots.specs.Pools.{Pool, Slot, findAt, findSlot, free, held, noPool, noSlot, seen, taken, vacant}
-use Rattle.slots.specs.View.{bytesAt, each, lenAt, marked, poolIn, slotFrom, slotIn, view}
+use Rattle.slots.specs.View.{bytesAt, lenAt, marked, poolIn, slotFrom, slotIn, view}
+use Rattle.rules.specs.Lists.{each}
 use borrow.Author.Tests.{eq-eqb, ne-eqb}
 use lib.ListN.{getD}
 use mathlib.Core.List.{List}

@@ -1,4 +1,5 @@
--- A reader need not believe this file: only contracts of the searches cite it, no call's promise. The search of the lists for an address or for room.
+-- The search of the lists for an address or for room.
+-- A reader need not believe this file: contracts below the public calls cite it, no public call's promise does.
 use Prim.Native.Nat.{_*_, _+_, _-_, ℕ}
 use Rattle.address.specs.Address.{addressOf, poolOf, slotOf}
 use Rattle.layout.specs.Layout.{bytesBefore, rowsBefore, sizeAt, slotsAt}

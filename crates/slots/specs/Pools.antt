@@ -57,10 +57,10 @@ lowest [] = none
 lowest (free b ∷ xs) = some 0
 lowest (taken n b ∷ xs) = next (lowest xs)
 
-abbrev pub shift : Choice → Choice
-shift tooLarge = tooLarge
-shift (allTaken k) = allTaken (suc k)
-shift (into k i) = into (suc k) i
+abbrev pub shiftPool : Choice → Choice
+shiftPool tooLarge = tooLarge
+shiftPool (allTaken k) = allTaken (suc k)
+shiftPool (into k i) = into (suc k) i
 
 -- every slot of this subpool is taken: without spilling it is the one that is named, and else what the later ones say
 abbrev pub spillInto : Bool → Choice → Choice
@@ -77,4 +77,4 @@ pick spill true none r = spillInto spill r
 
 unfoldable pub choose : Bool → List Pool → ℕ → Choice
 choose spill [] n = tooLarge
-choose spill (p ∷ ps) n = pick spill (leb n (p .size)) (lowest (p .slots)) (shift (choose spill ps n))
+choose spill (p ∷ ps) n = pick spill (leb n (p .size)) (lowest (p .slots)) (shiftPool (choose spill ps n))

@@ -1,5 +1,6 @@
 -- The two lent lists read as subpools of slots, and subpools laid out as the two lists.
-use Prim.Native.Nat.{_*_, _+_, suc, zero, ℕ}
+use Rattle.rules.specs.Lists.{each}
+use Prim.Native.Nat.{_*_, _+_, ℕ}
 use Rattle.layout.specs.Layout.{allBytes, allRows, bytesBefore, rowsBefore, sizeAt, slotsAt}
 use Rattle.layout.specs.Limits.{storeFree}
 use Rattle.slots.specs.Pools.{Pool, Slot, free, taken}
@@ -33,11 +34,6 @@ marked false w b = taken w b
 abbrev pub slotFrom : ℕ → List ℕ → Slot
 slotFrom w b = marked (eqb w storeFree) w b
 
--- f i, f (i + 1), .. : n of them
-unfoldable pub each : {A : Type 0} → (ℕ → A) → ℕ → ℕ → List A
-each f i zero = []
-each f i (suc n) = f i ∷ each f (suc i) n
-
 -- slot i of subpool k, and subpool k
 abbrev pub slotIn : Setup → List ℕ → List ℕ → ℕ → ℕ → Slot
 slotIn su st le k i = slotFrom (lenAt su le k i) (bytesAt su st k i)
@@ -66,20 +62,20 @@ abbrev pub slotLens : List Slot → List ℕ
 slotLens [] = []
 slotLens (x ∷ xs) = lenOf x ∷ slotLens xs
 
-unfoldable pub bytesOf : List Pool → List ℕ
-bytesOf [] = []
-bytesOf (p ∷ ps) = slotBytes (p .slots) ++ bytesOf ps
+unfoldable pub poolBytes : List Pool → List ℕ
+poolBytes [] = []
+poolBytes (p ∷ ps) = slotBytes (p .slots) ++ poolBytes ps
 
-unfoldable pub lensOf : List Pool → List ℕ
-lensOf [] = []
-lensOf (p ∷ ps) = slotLens (p .slots) ++ lensOf ps
+unfoldable pub poolLens : List Pool → List ℕ
+poolLens [] = []
+poolLens (p ∷ ps) = slotLens (p .slots) ++ poolLens ps
 
 -- the lent lists with the subpools ps in them; what lies beyond the setup is as it was
 unfoldable pub storeWith : Setup → List ℕ → List Pool → List ℕ
-storeWith su st ps = bytesOf ps ++ drop (allBytes su) st
+storeWith su st ps = poolBytes ps ++ drop (allBytes su) st
 
 unfoldable pub lensWith : Setup → List ℕ → List Pool → List ℕ
-lensWith su le ps = lensOf ps ++ drop (allRows su) le
+lensWith su le ps = poolLens ps ++ drop (allRows su) le
 
 -- The lent lists stand for ps, and nothing else moved. It composes, call after call.
 pub record Leaves (su : Setup) (st le : List ℕ) (ps : List Pool) (st′ le′ : List ℕ) : Type 0 where

@@ -10,8 +10,9 @@ use Rattle.lookup.specs.Refusals.{paper}
 use Rattle.rules.specs.Papers.{Paper, no, refused, says}
 use Rattle.slots.proofs.Find.{find-held, find-no-pool, find-no-slot}
 use Rattle.slots.specs.Inside.{cellOf, roomOf}
-use Rattle.slots.specs.Pools.{Choice, Found, Pool, Slot, allTaken, choose, findAt, findSlot, free, held, into, lowest, next, noPool, noSlot, over, pick, shift, spillInto, taken, tooLarge, vacant}
-use Rattle.slots.specs.View.{each, part, poolIn, put, view}
+use Rattle.slots.specs.Pools.{Choice, Found, Pool, Slot, allTaken, choose, findAt, findSlot, free, held, into, lowest, next, noPool, noSlot, over, pick, shiftPool, spillInto, taken, tooLarge, vacant}
+use Rattle.slots.specs.View.{part, poolIn, put, view}
+use Rattle.rules.specs.Lists.{each}
 use Rattle.store.proofs.Edit.{leaves-fill}
 use Rattle.store.proofs.Promises.{does-done, does-refused}
 use Rattle.store.specs.Calls.{addIn, place}
@@ -59,7 +60,7 @@ lowest-open [] = tt
 lowest-open (free b ∷ xs) = refl
 lowest-open (taken n b ∷ xs) = next-open (taken n b) xs (lowest xs) (lowest-open xs)
 
-shift-open : (p : Pool) (ps : List Pool) (n : ℕ) (r : Choice) → Open ps n r → Open (p ∷ ps) n (shift r)
+shift-open : (p : Pool) (ps : List Pool) (n : ℕ) (r : Choice) → Open ps n r → Open (p ∷ ps) n (shiftPool r)
 unfolding findAt sizeIn
 shift-open p ps n tooLarge h = tt
 shift-open p ps n (allTaken k) h = tt
@@ -82,7 +83,7 @@ pub choose-open : (sp : Bool) (ps : List Pool) (n : ℕ) → Open ps n (choose s
 unfolding choose
 choose-open sp [] n = tt
 choose-open sp (p ∷ ps) n =
-    pick-open sp (leb n (p .size)) p ps n (lowest (p .slots)) (shift (choose sp ps n)) refl (lowest-open (p .slots))
+    pick-open sp (leb n (p .size)) p ps n (lowest (p .slots)) (shiftPool (choose sp ps n)) refl (lowest-open (p .slots))
     (shift-open p ps n (choose sp ps n) (choose-open sp ps n))
 
 size-each : (f : ℕ → Pool) (n k j t : ℕ) → k + j ≡ t → j < n → sizeIn (each f k n) j ≡ f t .size

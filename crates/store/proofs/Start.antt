@@ -9,8 +9,8 @@ use Rattle.rules.specs.Papers.{after, says}
 use Rattle.rules.specs.Tests.{unless}
 use Rattle.slots.proofs.Find.{slot-free}
 use Rattle.slots.specs.Pools.{Slot, free}
-use Rattle.slots.specs.View.{Leaves, bytesAt, each, lenAt, part, put, slotIn, view}
-use Rattle.store.proofs.Edit.{each-cong}
+use Rattle.slots.specs.View.{Leaves, bytesAt, lenAt, part, put, slotIn, view}
+use Rattle.rules.proofs.Each.{each-cong, each-same}
 use Rattle.store.proofs.Laid.{lens-laid, store-laid}
 use Rattle.store.proofs.Slots.{front}
 use Rattle.store.specs.Calls.{freshIn, freshPools}
@@ -19,7 +19,7 @@ use Rattle.store.specs.Refusals.{startedPaper}
 use lib.ListN.{List·getD-append, drop, getD, getD-replicate, length, length-append, length-drop, length-replicate, replicate, take}
 use lib.Seq.{drop-at}
 use mathlib.Core.List.{List, _++_, _∷_}
-use mathlib.Core.Path.{_∙_, _≡_, ap, ap₂, refl, sym}
+use mathlib.Core.Path.{_∙_, _≡_, ap, refl, sym}
 use native.Mathlib.Nat.{le-of-suc-le-suc, mul-le-mul-right, not-suc-le-zero, sub-zero}
 use native.Mathlib.Omega.{arith}
 use Rattle.layout.specs.declared.Setup.{Setup}
@@ -50,11 +50,6 @@ module _ (v n : ℕ) (l : List ℕ) where
 
 filled-length : (v n : ℕ) (l : List ℕ) → n ≤ length l → length (replicate n v ++ drop n l) ≡ length l
 filled-length v n l h = simp (length-append, length-replicate, length-drop) (omega arith)
-
-each-same : {A : Type 0} (f : ℕ → A) (x : A) (n i : ℕ) → ((t : ℕ) → t < i + n → f t ≡ x) → each f i n ≡ replicate n x
-unfolding each
-each-same f x zero i h = refl
-each-same f x (suc n) i h = ap₂ _∷_ (h i (omega arith)) (each-same f x n (suc i) (λ t l. h t (omega arith)))
 
 module _ (su : Setup) (st le : List ℕ) where
   fresh-slot : (k i : ℕ) → k < su .pools → i < slotsAt su k

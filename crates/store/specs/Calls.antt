@@ -1,4 +1,4 @@
--- What the calls that change the store come to, in the paper's numbers and by the store's rules.
+-- What the calls that change the store come to, in document 01's numbers and by the store's rules.
 use Prim.Native.Nat.{ℕ}
 use Rattle.address.specs.Address.{addressOf}
 use Rattle.layout.specs.Judge.{sized}
@@ -6,7 +6,7 @@ use Rattle.layout.specs.Layout.{sizeAt, slotsAt}
 use Rattle.lookup.specs.Calls.{ifHeld}
 use Rattle.rules.specs.Papers.{Outcome, done, no, refused}
 use Rattle.slots.specs.Pools.{Choice, Pool, allTaken, choose, find, free, into, tooLarge}
-use Rattle.slots.specs.View.{each}
+use Rattle.rules.specs.Lists.{each}
 use Rattle.store.specs.Edits.{edit, editAt, fill, wipe}
 use lib.ListN.{length, replicate}
 use mathlib.Core.Bool.{Bool}

@@ -1,4 +1,4 @@
--- The paper's number and values for each answer of a call that changes the store, and of judging.
+-- Document 01's number and values for each answer of a call that changes the store, and of judging.
 use Rattle.lookup.specs.Refusals.{paper}
 use Rattle.rules.specs.Papers.{Paper, no}
 use mathlib.Core.List.{[], _∷_}

@@ -13,7 +13,8 @@ use Rattle.layout.specs.Layout.{rowsBefore, sizeAt, slotsAt}
 use Rattle.layout.specs.Limits.{storeFree}
 use Rattle.slots.specs.Pools.{Choice, Found, Pool, Slot, allTaken, choose, find, free, held, into, noPool, noSlot, taken, tooLarge, vacant}
 use Rattle.store.specs.Edits.{edit, editAt, editSlot, fill, rewrite, wipe}
-use Rattle.slots.specs.View.{Leaves, bytesAt, each, lenAt, marked, poolIn, slotFrom, slotIn, view}
+use Rattle.slots.specs.View.{Leaves, bytesAt, lenAt, marked, poolIn, slotFrom, slotIn, view}
+use Rattle.rules.specs.Lists.{each}
 use borrow.Author.Tests.{eqb-false, eqb-true}
 use lib.Dec.{eqb}
 use lib.ListN.{getD, length, replicate}

@@ -10,7 +10,7 @@ use Rattle.layout.specs.Judge.{Sound}
 use Rattle.slots.specs.Pools.{Found, Pool, choose, find, held, into, noPool, noSlot, taken, vacant}
 use Rattle.store.specs.Edits.{edit, fill, rewrite, wipe}
 use Rattle.store.specs.Promise.{Writes}
-use Rattle.lookup.specs.Promise.{startOf}
+use Rattle.lookup.specs.Promise.{packetStart}
 use Rattle.slots.specs.View.{put, view}
 use Rattle.store_laws.proofs.Elsewhere.{named, placed-keeps, slot-else}
 use Rattle.store_laws.proofs.Reached.{add-done, address-back, delete-done, modify-leaves}
@@ -67,6 +67,6 @@ module _ (su : Setup) (st le : List ℕ) (s : Sound su st le) (st′ le′ : Lis
 
   -- ys was written through the part that `modify_part` lends
   pub others-modify : (a n : ℕ) (raw ys : List ℕ) → find (view su st le) a ≡ held n raw → length ys ≡ n → Elsewhere k i a
-      → theSlot (view su (put (startOf su a) n ys st) le) k i ≡ theSlot (view su st le) k i
+      → theSlot (view su (put (packetStart su a) n ys st) le) k i ≡ theSlot (view su st le) k i
   others-modify a n raw ys q e o =
       ap (λ (ps : List Pool). theSlot ps k i) (modify-leaves su st le s a n raw ys q e .seen) ∙ rewrite-others (view su st le) a ys k i o

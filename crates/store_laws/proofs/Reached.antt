@@ -17,7 +17,7 @@ use Rattle.layout.specs.Judge.{Sized, Sound, buffersOk, setupOk, sized}
 use Rattle.slots.specs.Pools.{Choice, Found, Pool, allTaken, choose, find, held, into, noPool, noSlot, tooLarge, vacant}
 use Rattle.store.specs.Edits.{edit, rewrite}
 use Rattle.store.specs.Promise.{Does, Writes}
-use Rattle.lookup.specs.Promise.{startOf}
+use Rattle.lookup.specs.Promise.{packetStart}
 use Rattle.store.specs.Refusals.{startedPaper}
 use Rattle.slots.specs.View.{Leaves, put, view}
 use lib.ListN.{length}
@@ -84,10 +84,10 @@ held-len m n b c q = cc
 
 -- ys was written through the part that `modify_part` lends: the packet is rewritten, and nothing else
 pub modify-leaves : (su : Setup) (st le : List ℕ) → Sound su st le → (a n : ℕ) (raw ys : List ℕ) → find (view su st le) a ≡ held n raw → length ys ≡ n
-    → Leaves su st le (edit (rewrite ys) (view su st le) a) (put (startOf su a) n ys st) le
+    → Leaves su st le (edit (rewrite ys) (view su st le) a) (put (packetStart su a) n ys st) le
 modify-leaves su st le s a n raw ys q e =
     let h = held-inside su st le (poolOf a) (slotOf a) n raw q in
-    subst (λ (m : ℕ). Leaves su st le (edit (rewrite ys) (view su st le) a) (put (startOf su a) m ys st) le) e
+    subst (λ (m : ℕ). Leaves su st le (edit (rewrite ys) (view su st le) a) (put (packetStart su a) m ys st) le) e
     (leaves-rewrite su st le (bounds s) (poolOf a) (slotOf a) (h .0) (h .1) ys (h .2)
     (e ∙ held-len _ _ _ _ (sym q ∙ find-held su st le (poolOf a) (slotOf a) (h .0) (h .1) (h .2))))
 

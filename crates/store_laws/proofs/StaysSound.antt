@@ -7,7 +7,7 @@ use Rattle.lookup.specs.Calls.{judging}
 use Rattle.layout.specs.Judge.{Sized, Sound}
 use Rattle.slots.specs.Pools.{find, held}
 use Rattle.store.specs.Promise.{Does, Writes}
-use Rattle.lookup.specs.Promise.{startOf}
+use Rattle.lookup.specs.Promise.{packetStart}
 use Rattle.store.specs.Refusals.{startedPaper}
 use Rattle.slots.specs.View.{Leaves, put, view}
 use Rattle.store_laws.proofs.Fitting.{add-fits, delete-fits, fresh-fits, rewrite-fits, sound-of, view-fits}
@@ -35,7 +35,7 @@ module _ (su : Setup) (st le : List ℕ) (s : Sound su st le) where
   public-delete-stays a p st′ le′ w = delete-stays a p st′ le′ (delete-done su st le s a p st′ le′ w)
 
   -- ys was written through the part that `modify_part` lends at an address that holds a packet
-  pub modify-stays : (a n : ℕ) (raw ys : List ℕ) → find (view su st le) a ≡ held n raw → length ys ≡ n → Sound su (put (startOf su a) n ys st) le
+  pub modify-stays : (a n : ℕ) (raw ys : List ℕ) → find (view su st le) a ≡ held n raw → length ys ≡ n → Sound su (put (packetStart su a) n ys st) le
   modify-stays a n raw ys q e =
       sound-of su st le _ _ le (sized-of s) (modify-leaves su st le s a n raw ys q e) (rewrite-fits (view su st le) a ys (view-fits su st le s))
 

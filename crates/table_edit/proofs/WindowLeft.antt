@@ -19,7 +19,7 @@ use mathlib.Core.Logic.{⊎-elim}
 use mathlib.Core.Path.{_∙_, _≡_, ap, refl, sym}
 use native.Mathlib.Nat.{add-zero, sub-zero, suc-add, suc-sub-suc, zero-add}
 use native.Mathlib.Omega.{arith}
-use Rattle.selection.specs.declared.TimeWindow.{TimeWindow}
+use Rattle.selection.specs.declared.MomentWindow.{MomentWindow}
 
 unfoldable pub out : ℕ → ℕ → Entry → Bool
 out lo hi e = not (between lo hi e)
@@ -91,7 +91,7 @@ module _ (lo hi : ℕ) where
 
 -- ---- a window
 
-module _ (es : List Entry) (o : ordered es ≡ true) (w : TimeWindow) where
+module _ (es : List Entry) (o : ordered es ≡ true) (w : MomentWindow) where
   -- the entries outside it are what the removal of its range leaves
   pub window-left : outside w es ≡ without (startOf w es) (endOf w es - startOf w es) es
   window-left =

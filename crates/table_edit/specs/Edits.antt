@@ -1,7 +1,7 @@
 -- An entry inserted, and a range of entries removed: the entries, and the words afterwards.
 use Prim.Native.Nat.{_*_, _+_, _<_, _≤_, ℕ}
 use Rattle.rows.specs.Entries.{Entry, relaid, time, unpack, width}
-use Rattle.rows.specs.Order.{mostEntries}
+use Rattle.rows.specs.Order.{maxEntries}
 use lib.Dec.{leb}
 use lib.ListN.{drop, length, take}
 use mathlib.Core.Bool.{cond}
@@ -30,4 +30,4 @@ afterRemove w n i m = relaid w n (without i m (unpack n w))
 -- there is a row for one more
 pub record Spare (w : List ℕ) (n : ℕ) : Type 0 where
   pub room : (n + 1) * width ≤ length w
-  pub few : n < mostEntries
+  pub few : n < maxEntries

@@ -1,5 +1,5 @@
--- What the contracts of private functions cite: words moved and cleared within a list. A reader need not believe this: the public
--- calls' promises do not name it.
+-- Words moved and cleared within a list.
+-- A reader need not believe this file: contracts below the public calls cite it, no public call's promise does.
 use Prim.Native.Nat.{_+_, ℕ}
 use lib.ListN.{drop, replicate, take}
 use lib.Seq.{paste}

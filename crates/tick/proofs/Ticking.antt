@@ -6,7 +6,7 @@ use mathlib.Core.Bool.{Bool}
 use mathlib.Core.List.{List, [], _∷_}
 use mathlib.Core.Path.{_≡_, _∙_, ap, ap₂, sym}
 use native.Mathlib.Omega.{arith}
-use Rattle.log.specs.Log.{mostLogBytes}
+use Rattle.log.specs.Log.{maxLogBytes}
 use Rattle.record.specs.Refusals.{paper}
 use Rattle.record.specs.declared.Record.{Record}
 use Rattle.record.specs.declared.ScheduleRefusal.the-variants.{LogTooSmall}
@@ -157,5 +157,5 @@ few-rows count d limit n h e = omega arith
 pub some-rows : (count d limit n m : ℕ) → d ≤ count → n ≡ min d limit → m ≤ n → m ≤ count
 some-rows count d limit n m h e l = omega arith
 
-pub used-part : (long cap : ℕ) → cap ≡ min long mostLogBytes → 8 ≤ long → (8 ≤ cap) × (cap ≤ mostLogBytes) × (cap ≤ long)
+pub used-part : (long cap : ℕ) → cap ≡ min long maxLogBytes → 8 ≤ long → (8 ≤ cap) × (cap ≤ maxLogBytes) × (cap ≤ long)
 used-part long cap e h = (omega arith, omega arith, omega arith)

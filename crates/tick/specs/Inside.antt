@@ -1,4 +1,5 @@
--- What the contracts of private functions cite. A reader need not believe this: the public call's promise does not name it.
+-- What the log lacks for the first due record.
+-- A reader need not believe this file: contracts below the public calls cite it, no public call's promise does.
 use Prim.Native.Nat.{ℕ}
 use Rattle.rules.specs.Tests.{allOf, unless}
 use Rattle.slots.specs.Pools.{Pool}

@@ -1,6 +1,6 @@
 -- The release tick (document 01, "The release tick and its log"): what is handed out, what it answers and what it leaves.
 use Prim.Native.Nat.{min, ℕ}
-use Rattle.log.specs.Log.{logBytes, mostLogBytes}
+use Rattle.log.specs.Log.{logBytes, maxLogBytes}
 use Rattle.rules.specs.Papers.{Outcome, done, no, refused}
 use Rattle.rules.specs.Tests.{allOf, unless}
 use Rattle.schedule.specs.State.{State, withEntries, withPools}
@@ -16,7 +16,7 @@ use mathlib.Core.List.{List, [], _∷_}
 
 -- "Of a log, only the first 1,048,576 bytes are used"
 abbrev pub usable : List ℕ → ℕ
-usable log = min (length log) mostLogBytes
+usable log = min (length log) maxLogBytes
 
 -- the limit is at least 1, something is due, and a log of the first due record alone does not fit
 unfoldable pub firstLacks : ℕ → ℕ → State → Bool

@@ -1,7 +1,7 @@
 -- The log holds what is handed out; what the first record alone needs of it.
 -- Assumes nothing.
 use Prim.Native.Nat.{_*_, _+_, _<_, _≤_, suc, zero, ℕ}
-use Rattle.log.specs.Log.{LogRecord, mostLogBytes, records, total}
+use Rattle.log.specs.Log.{LogRecord, maxLogBytes, records, total}
 use Rattle.measure.specs.Fitting.{fitting}
 use Rattle.slots.specs.Pools.{Pool, find}
 use Rattle.slots.specs.View.{view}
@@ -29,7 +29,7 @@ module _ (su : Setup) (st le w : List ℕ) (del : Bool) (n cap m : ℕ) (q : m �
   few = omega (arith, fitting-le (leave del) cap 8 (unpack n w) (view su st le), length-unpack n w)
 
   module _ (on : Bool) (log : List ℕ) where
-    pub roomy : 8 ≤ cap → cap ≤ mostLogBytes → cap ≤ length log → Roomy del on (unpack m w) (view su st le) log
+    pub roomy : 8 ≤ cap → cap ≤ maxLogBytes → cap ≤ length log → Roomy del on (unpack m w) (view su st le) log
     roomy h l g =
         let t : take m (unpack n w) ≡ unpack m w = take-unpack n w m few in
         let f = rw (← q, t) at (fitting-holds (leave del) cap (always on) 8 (unpack n w) (view su st le) h) in

@@ -2,7 +2,7 @@
 ghost use mathlib.Core.Path.{_≡_};
 ghost use Prim.Native.Nat.{_<_, _≤_};
 ghost use lib.ListN.{length};
-ghost use Rattle.log.specs.Log.{mostLogBytes};
+ghost use Rattle.log.specs.Log.{maxLogBytes};
 ghost use Rattle.layout.specs.Judge.{Sound as StoreSound};
 ghost use Rattle.slots.specs.View.{view};
 ghost use Rattle.rows.specs.Entries.{unpack};
@@ -49,7 +49,7 @@ pub fn release(
     requires { ⌜ StoreSound setup (now store) (now lens) ⌝ }
     requires { ⌜ Held (now rows) count ⌝ }
     requires { ⌜ n ≤ count ⌝ }
-    requires { ⌜ (8 ≤ cap) × (cap ≤ mostLogBytes) × (cap ≤ length (now log)) ⌝ }
+    requires { ⌜ (8 ≤ cap) × (cap ≤ maxLogBytes) × (cap ≤ length (now log)) ⌝ }
     ensures { λ m. ⌜ Released setup delete on n cap count (now (store .entry)) (now (lens .entry)) (now (rows .entry)) (now (log .entry))
         m (now (store .exit)) (now (lens .exit)) (now (rows .exit)) (now (log .exit)) ⌝ }
 {

@@ -2,7 +2,7 @@
 -- Assumes nothing.
 use Prim.Native.Nat.{_<_, _^_, _≤_, suc, zero, ℕ}
 use Rattle.log.proofs.ReadBack.{Plain, read-back}
-use Rattle.log.specs.Log.{logBytes, mostLogBytes}
+use Rattle.log.specs.Log.{logBytes, maxLogBytes}
 use Rattle.log.specs.Reading.{readLog}
 use Rattle.slots.specs.Pools.{Pool}
 use Rattle.rows.specs.Entries.{Entry}
@@ -30,7 +30,7 @@ plain-turns after on (suc m) [] ps w = tt
 plain-turns after on (suc m) (e ∷ es) ps w = (record { id-fits = w .0; addr-fits = w .1 }, plain-turns after on m es (after ps (e .addr)) (w .2))
 
 pub log-reads : (after : List Pool → ℕ → List Pool) (on : Entry → Bool) (ck limit cap : ℕ) (log : List ℕ) (es : List Entry) (ps : List Pool)
-    → 8 ≤ cap → cap ≤ length log → cap ≤ mostLogBytes → WordsIn es
+    → 8 ≤ cap → cap ≤ length log → cap ≤ maxLogBytes → WordsIn es
     → readLog (sets log 0 (logBytes (handout after on ck limit 8 cap es ps .records))) ≡ handout after on ck limit 8 cap es ps .records
 log-reads after on ck limit cap log es ps h l b w =
     let m = length (handout after on ck limit 8 cap es ps .records) in

@@ -13,20 +13,20 @@ use Rattle.rules.proofs.All.{and-left, and-right}
 use Rattle.rules.specs.Papers.{Outcome, done, no, refused}
 use Rattle.rules.specs.Tests.{unless}
 use Rattle.selection.specs.Windows.{EndsInRange}
-use Rattle.selection.specs.declared.TimeWindow.{TimeWindow}
-use Rattle.selection.specs.declared.TimeWindow.the-variants as T
+use Rattle.selection.specs.declared.MomentWindow.{MomentWindow}
+use Rattle.selection.specs.declared.MomentWindow.the-variants as T
 use Rattle.time.proofs.Judged.{time-judged}
 use Rattle.time.specs.Time.{InRange, inRange, instant, momentOf}
 use Rattle.time.specs.declared.Moment.{Moment}
 use Rattle.time.specs.declared.UnixTime.{UnixTime}
 use Rattle.windows.specs.Inside.{Opens, openedAs}
 use Rattle.windows.specs.Windowing.{endsInRange, forward, windowOf, windowed}
-use Rattle.windows.specs.declared.Window.{Window}
-use Rattle.windows.specs.declared.Window.the-variants.{All, From, FromTo, To}
+use Rattle.windows.specs.declared.TimeWindow.{TimeWindow}
+use Rattle.windows.specs.declared.TimeWindow.the-variants.{All, From, FromTo, To}
 use Rattle.windows.specs.declared.Opened.{Opened}
 use Rattle.windows.specs.declared.Opened.the-variants as O
 
-module _ (w : Window) where
+module _ (w : TimeWindow) where
   -- the ends' range
   pub ends-all : w ≡ All → true ≡ endsInRange w
   unfolding endsInRange
@@ -100,7 +100,7 @@ module _ (w : Window) where
   unfolding openedAs windowed unless paper
   open-reversed e f = record { same = rw (e, f); ends = tt }
 
-  pub open-at : (x : TimeWindow) → endsInRange w ≡ true → forward w ≡ true → x ≡ windowOf w → EndsInRange x → Opens w (O.At x)
+  pub open-at : (x : MomentWindow) → endsInRange w ≡ true → forward w ≡ true → x ≡ windowOf w → EndsInRange x → Opens w (O.At x)
   unfolding openedAs windowed unless
   open-at x e f q i = record { same = rw (e, f, q); ends = i }
 
@@ -113,11 +113,11 @@ not-ltb a b = go (ltb b a) refl
     go false e = sym (le-leb a b (ltb-false b a e))
 
 -- what opening says of every call
-then : {A : Type 0} → Outcome TimeWindow → (TimeWindow → Outcome A) → Outcome A
+then : {A : Type 0} → Outcome MomentWindow → (MomentWindow → Outcome A) → Outcome A
 then (refused p) call = refused p
 then (done vs x) call = call x
 
-windowed-then : {A : Type 0} (w : Window) (call : TimeWindow → Outcome A) → windowed w call ≡ then (windowed w (λ x. done [] x)) call
+windowed-then : {A : Type 0} (w : TimeWindow) (call : MomentWindow → Outcome A) → windowed w call ≡ then (windowed w (λ x. done [] x)) call
 unfolding windowed then unless
 windowed-then w call = go (endsInRange w) (forward w)
   where
@@ -127,15 +127,15 @@ windowed-then w call = go (endsInRange w) (forward w)
     go true false = refl
     go true true = refl
 
-module _ {A : Type 0} (w : Window) (call : TimeWindow → Outcome A) (r : Opened) (h : Opens w r) where
-  pub opened-at : (x : TimeWindow) → r ≡ O.At x → (windowed w call ≡ call x) × EndsInRange x
+module _ {A : Type 0} (w : TimeWindow) (call : MomentWindow → Outcome A) (r : Opened) (h : Opens w r) where
+  pub opened-at : (x : MomentWindow) → r ≡ O.At x → (windowed w call ≡ call x) × EndsInRange x
   unfolding openedAs then
   opened-at x q =
       let g = rw q at h in
-      (windowed-then w call ∙ ap (λ (o : Outcome TimeWindow). then o call) (sym (g .same)), g .ends)
+      (windowed-then w call ∙ ap (λ (o : Outcome MomentWindow). then o call) (sym (g .same)), g .ends)
 
   pub opened-refused : (e : ScheduleRefusal) → r ≡ O.Refused e → windowed w call ≡ refused (paper e)
   unfolding openedAs then
   opened-refused e q =
       let g = rw q at h in
-      windowed-then w call ∙ ap (λ (o : Outcome TimeWindow). then o call) (sym (g .same))
+      windowed-then w call ∙ ap (λ (o : Outcome MomentWindow). then o call) (sym (g .same))

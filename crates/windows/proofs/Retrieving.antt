@@ -9,23 +9,23 @@ use Rattle.rules.specs.Papers.{no, says}
 use Rattle.rows.specs.Entries.{Entry}
 use Rattle.selection.specs.Windows.{firstRow, inWindow}
 use Rattle.selection.specs.declared.Part.{Part}
-use Rattle.selection.specs.declared.TimeWindow.{TimeWindow}
+use Rattle.selection.specs.declared.MomentWindow.{MomentWindow}
 use Rattle.windows.specs.Answers.{retrievedPaper}
 use Rattle.windows.specs.Inside.{Opens}
 use Rattle.schedule.specs.State.{State}
 use Rattle.windows.specs.Windowing.{retrieveIn}
 use Rattle.windows.specs.declared.Retrieved.the-variants.{Refused, Rows}
-use Rattle.windows.specs.declared.Window.{Window}
+use Rattle.windows.specs.declared.TimeWindow.{TimeWindow}
 use Rattle.windows.specs.declared.Opened.{Opened}
 use Rattle.windows.specs.declared.Opened.the-variants as O
 use Rattle.windows.proofs.Openings.{opened-at, opened-refused}
 
-module _ (w : Window) (r : Opened) (h : Opens w r) (es : List Entry) (s : State) (q : s .entries ≡ es) where
+module _ (w : TimeWindow) (r : Opened) (h : Opens w r) (es : List Entry) (s : State) (q : s .entries ≡ es) where
   pub retrieve-refused : (e : ScheduleRefusal) → r ≡ O.Refused e → retrievedPaper (Refused e) ≡ says (retrieveIn w s)
   unfolding retrievedPaper retrieveIn says
   retrieve-refused e p = ap says (sym (opened-refused w _ r h e p))
 
-  pub retrieve-at : (x : TimeWindow) (p : Part) → r ≡ O.At x → p .first ≡ firstRow x es → p .number ≡ length (inWindow x es)
+  pub retrieve-at : (x : MomentWindow) (p : Part) → r ≡ O.At x → p .first ≡ firstRow x es → p .number ≡ length (inWindow x es)
       → retrievedPaper (Rows p) ≡ says (retrieveIn w s)
   unfolding retrievedPaper retrieveIn says
   retrieve-at x p e a b =

@@ -1,7 +1,7 @@
 // Window retrieval for a caller that has judged: nothing is judged twice in one call.
 use crate::Opened;
 use crate::Retrieved;
-use crate::Window;
+use crate::TimeWindow;
 use crate::open;
 ghost use mathlib.Core.Path.{_≡_};
 ghost use Rattle.rules.specs.Papers.{says};
@@ -11,7 +11,7 @@ ghost use Rattle.rows.specs.Order.{Sound as TableSound};
 ghost use Rattle.windows.specs.Answers.{retrievedPaper};
 ghost use Rattle.windows.specs.Windowing.{retrieveIn};
 
-pub fn retrieve_by_time_filter(rows: &[u64], count: usize, w: Window) -> Retrieved
+pub fn retrieve_by_time_filter(rows: &[u64], count: usize, w: TimeWindow) -> Retrieved
     requires { ⌜ TableSound (now rows) count ⌝ }
     ensures { λ r. ⌜ ((s : State) → s .entries ≡ unpack count (now (rows .entry)) → retrievedPaper r ≡ says (retrieveIn w s)) ⌝ }
 {

@@ -1,7 +1,7 @@
 // Windows of time given as arguments (document 01, module 5): 4 for an end out of range, 15 for a start after the end, and then the window in moments.
 use record::ScheduleRefusal;
+use selection::MomentWindow;
 use selection::Part;
-use selection::TimeWindow;
 use time::UnixTime;
 ghost use mathlib.Core.Path.{_≡_};
 ghost use mathlib.Core.Bool.{_&&_, true};
@@ -14,7 +14,7 @@ ghost use Rattle.windows.specs.Windowing.{endsInRange, forward as forwar
 pub mod judged;
 
 // A window of time, as it is given: an end that it has not is no argument.
-pub enum Window {
+pub enum TimeWindow {
     All,
     FromTo(UnixTime, UnixTime),
     From(UnixTime),
@@ -28,11 +28,11 @@ pub enum Retrieved {
 
 // A window with its ends judged.
 pub enum Opened {
-    At(TimeWindow),
+    At(MomentWindow),
     Refused(ScheduleRefusal),
 }
 
-pub fn open(w: Window) -> Opened
+pub fn open(w: TimeWindow) -> Opened
     ensures { λ r. ⌜ Opens w r ⌝ }
 {
     let ok = ends_in_range(w);
@@ -46,38 +46,38 @@ pub fn open(w: Window) -> Opened
     Opened::At(moments(w))
 }
 
-fn ends_in_range(w: Window) -> bool
+fn ends_in_range(w: TimeWindow) -> bool
     ensures { λ r. ⌜ r ≡ endsInRange w ⌝ }
 {
     match w {
-        Window::All => true,
-        Window::FromTo(f, t) => both(f.in_range(), t.in_range()),
-        Window::From(f) => f.in_range(),
-        Window::To(t) => t.in_range(),
+        TimeWindow::All => true,
+        TimeWindow::FromTo(f, t) => both(f.in_range(), t.in_range()),
+        TimeWindow::From(f) => f.in_range(),
+        TimeWindow::To(t) => t.in_range(),
     }
 }
 
-fn forward(w: Window) -> bool
+fn forward(w: TimeWindow) -> bool
     requires { ⌜ endsInRange w ≡ true ⌝ }
     ensures { λ r. ⌜ r ≡ forwardOf w ⌝ }
 {
     match w {
-        Window::All => true,
-        Window::FromTo(f, t) => not_after(f, t),
-        Window::From(_) => true,
-        Window::To(_) => true,
+        TimeWindow::All => true,
+        TimeWindow::FromTo(f, t) => not_after(f, t),
+        TimeWindow::From(_) => true,
+        TimeWindow::To(_) => true,
     }
 }
 
-fn moments(w: Window) -> TimeWindow
+fn moments(w: TimeWindow) -> MomentWindow
     requires { ⌜ endsInRange w ≡ true ⌝ }
     ensures { λ r. ⌜ (r ≡ windowOf w) × EndsInRange r ⌝ }
 {
     match w {
-        Window::All => TimeWindow::All,
-        Window::FromTo(f, t) => TimeWindow::FromTo(f.to_moment(), t.to_moment()),
-        Window::From(f) => TimeWindow::From(f.to_moment()),
-        Window::To(t) => TimeWindow::To(t.to_moment()),
+        TimeWindow::All => MomentWindow::All,
+        TimeWindow::FromTo(f, t) => MomentWindow::FromTo(f.to_moment(), t.to_moment()),
+        TimeWindow::From(f) => MomentWindow::From(f.to_moment()),
+        TimeWindow::To(t) => MomentWindow::To(t.to_moment()),
     }
 }
 

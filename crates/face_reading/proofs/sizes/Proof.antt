@@ -2,7 +2,7 @@
 -- Assumes nothing.
 use Rattle.face_reading.proofs.Narrow.{narrow-at}
 use Rattle.face_reading.specs.Reading.{column}
-use Rattle.slots.specs.View.{each}
+use Rattle.rules.specs.Lists.{each}
 use native.Mathlib.Omega.{arith}
 use Rattle.face_reading.proofs.sizes.Statement.{statement}
 use Rattle.face_reading.proofs.sizes.Tie as tie

@@ -1,4 +1,5 @@
 -- `layout::row_of` meets its contract.
+use Prim.Native.Nat.{_+_}
 use Rattle.layout.proofs.RowOf.{row-is-1, row-is-2, row-is-3}
 use mathlib.Core.Path.{_∙_, ap}
 use borrow.Author.Needs.{needs}

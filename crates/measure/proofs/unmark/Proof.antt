@@ -2,7 +2,7 @@
 -- Assumes nothing.
 use Prim.Native.Nat.{_-_, _≤_}
 use Rattle.measure.proofs.Unmarking.{unmarked-more, unmarked-none}
-use Rattle.measure.specs.Marks.{Unmarked}
+use Rattle.measure.specs.Inside.{Unmarked}
 use mathlib.Core.Path.{_≡_}
 use native.Mathlib.Omega.{arith}
 use borrow.Author.Needs.{needs}

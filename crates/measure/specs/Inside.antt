@@ -1,4 +1,5 @@
--- A reader need not believe this file: only contracts of private functions cite it. The marks that counting leaves in the length table.
+-- The marks that counting leaves in the length table.
+-- A reader need not believe this file: contracts below the public calls cite it, no public call's promise does.
 use Prim.Native.Nat.{_+_, _-_, _<_, _≤_, ℕ}
 use Rattle.rules.specs.Tests.{allOf, unless}
 use Rattle.layout.specs.Limits.{storeFree}
