@@ -1,7 +1,8 @@
 // Dates in UTC: the date of a day counted from 1 January 1970, and the day of a date.
 ghost use mathlib.Core.Path.{_≡_};
 ghost use Prim.Native.Nat.{_*_, _<_, _≤_};
-ghost use Rattle.utc.specs.Calendar.{DateOf, DayOf, Months, Years, leap as isLeap, monthDays, monthsDays, yearDays, yearsDays};
+ghost use Rattle.utc.specs.Calendar.{DateOf, DayOf, leap as isLeap, monthDays, monthsDays, yearDays, yearsDays};
+ghost use Rattle.utc.specs.Inside.{Months, Years};
 
 pub struct Date {
     pub year: u64,
