@@ -77,8 +77,3 @@ put-over from size ys st h l =
     ∙ ap (λ (x : List ℕ). ys ++ x)
     (sym (drop-append-le (length ys) (take size (drop from st)) (drop size (drop from st)) (omega arith))
     ∙ ap (drop (length ys)) (take-append-drop size (drop from st))))
-
-pub set-get : (l : List ℕ) (i : ℕ) → set l i (getD l i 0) ≡ l
-set-get [] i = refl
-set-get (x ∷ l) zero = refl
-set-get (x ∷ l) (suc i) = ap (λ (t : List ℕ). x ∷ t) (set-get l i)

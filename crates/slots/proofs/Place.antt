@@ -18,14 +18,13 @@ use lib.ListN.{getD, length}
 use mathlib.Core.Bool.{Bool, cond, false, true}
 use mathlib.Core.List.{List}
 use mathlib.Core.Logic.{_⊎_, inl, inr, ⊎-elim}
-use mathlib.Core.Path.{_∙_, _≡_, ap, ap₂, refl, subst, sym}
+use mathlib.Core.Path.{_∙_, _≡_, ap, ap₂, subst, sym}
 use native.Mathlib.Omega.{arith}
 use Rattle.layout.specs.declared.Setup.{Setup}
 use Rattle.slots.specs.declared.Cell.{Cell}
 use Rattle.slots.specs.declared.StoreRefusal.{StoreRefusal}
 use Rattle.slots.specs.declared.StoreRefusal.the-variants.{DataDoesNotExist, InvalidStoreId, StoreFull}
 use Rattle.slots.specs.declared.StoreIdError.the-variants.{InvalidSubpool, InvalidPacketIdx}
-use Rattle.slots.specs.declared.search.Spot.{Spot}
 use Rattle.slots.specs.declared.search.Spot.the-variants.{Refused, At}
 
 at-same : (x y : Cell) → At x ≡ At y → x ≡ y
