@@ -41,16 +41,16 @@ spot-at su a vacant c q = let z : _≡_ {A = ℕ} 0 1 = cc in absurd (omega arit
 spot-at su a (held n b) c q = (n, b, refl, cc)
 
 -- what a search that refused says
-pub paper-of : Spot → Paper
-paper-of (Refused e) = paper e
-paper-of (At c) = no 0 []
+unfoldable pub spotPaper : Spot → Paper
+spotPaper (Refused e) = paper e
+spotPaper (At c) = no 0 []
 
 pub spot-refused : {A : Type 0} (su : Setup) (a : ℕ) (x : Found) (e : StoreRefusal) (f : ℕ → List ℕ → Outcome A) → spotOf su a x ≡ Refused e
     → ifHeld a x f ≡ refused (paper e)
-unfolding spotOf ifHeld ifNamed paper-of paper
-spot-refused su a noPool e f q = ap refused (ap paper-of q)
-spot-refused su a noSlot e f q = ap refused (ap paper-of q)
-spot-refused su a vacant e f q = ap refused (ap paper-of q)
+unfolding spotOf ifHeld ifNamed spotPaper paper
+spot-refused su a noPool e f q = ap refused (ap spotPaper q)
+spot-refused su a noSlot e f q = ap refused (ap spotPaper q)
+spot-refused su a vacant e f q = ap refused (ap spotPaper q)
 spot-refused su a (held n b) e f q = let z : _≡_ {A = ℕ} 0 1 = cc in absurd (omega arith)
 
 module _ (su : Setup) (st le : List ℕ) (k i : ℕ) (n : ℕ) (b : List ℕ) (q : findAt (view su st le) k i ≡ held n b) where
