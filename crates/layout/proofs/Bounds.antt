@@ -36,7 +36,8 @@ or-cases size n = go (eqb n storeFree) refl
 
 -- what a good setup says by itself
 module _ (su : Setup) (ok : setupOk su ≡ true) where
-  pub setup-pool : (k : ℕ) → k < su .pools → (lastSize su k < sizeAt su k) × (sizeAt su k ≤ maxSlotSize) × (1 ≤ slotsAt su k) × (slotsAt su k ≤ maxSlots)
+  pub setup-pool : (k : ℕ) → k < su .pools
+      → (lastSize su k < sizeAt su k) × (sizeAt su k ≤ maxSlotSize) × (1 ≤ slotsAt su k) × (slotsAt su k ≤ maxSlots)
   unfolding setupOk
   setup-pool k l =
       let h = all-each _ (all-at (poolOkAt su) (su .pools) (all-each _ ok .1 .1 .0) k l) in

@@ -1,4 +1,5 @@
--- A reader need not believe this file: only contracts of private functions cite it. When a row is before the one that it follows.
+-- When a row is before the one that it follows.
+-- A reader need not believe this file: contracts below the public calls cite it, no public call's promise does.
 use Prim.Native.Nat.{_*_, _+_, _<_, _≤_, ℕ}
 use Rattle.rules.specs.Inside.{OneIfWrong}
 use Rattle.time.specs.Time.{giga}

@@ -1,4 +1,5 @@
--- A reader need not believe this file: only contracts of private functions cite it. Faults that judging counts.
+-- Faults that judging counts.
+-- A reader need not believe this file: contracts below the public calls cite it, no public call's promise does.
 use Prim.Native.Nat.{_<_, _≤_, ℕ}
 use mathlib.Core.Path.{_≡_}
 

@@ -1,4 +1,5 @@
--- A reader need not believe this file: only contracts of private functions cite it. A day split into whole years or months and the days left.
+-- A day split into whole years or months and the days left.
+-- A reader need not believe this file: contracts below the public calls cite it, no public call's promise does.
 use Prim.Native.Nat.{_+_, _<_, _≤_, ℕ}
 use Rattle.utc.specs.Calendar.{monthDays, monthsDays, yearDays, yearsDays}
 use Rattle.utc.specs.declared.Split.{Split}
