@@ -1,4 +1,4 @@
--- The numbers of an answer.
+-- The paper of a sweep's answer, and what one deletion's answer adds to its count.
 use Prim.Native.Nat.{ℕ}
 use Rattle.rules.specs.Papers.{Paper, no}
 use Rattle.lookup.specs.Refusals.{paper}

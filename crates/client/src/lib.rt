@@ -30,7 +30,9 @@ fn one_if_done(d: Deleted) -> usize
 // Deletes the packet at each address in turn, and counts those that were there. The tables were judged.
 pub fn sweep_judged(setup: Setup, bytes: &mut [u8], lens: &mut [u16], addrs: &[u64]) -> usize
     requires { ⌜ Sound setup (now bytes) (now lens) ⌝ }
-    ensures { λ r. ⌜ Does setup (now (bytes .entry)) (now (lens .entry)) (sweepIn (now (addrs .entry))) (no 0 (r ∷ [])) (now (bytes .exit)) (now (lens .exit)) ⌝ }
+    ensures { λ r. ⌜ Does setup (now (bytes .entry)) (now (lens .entry))
+        (sweepIn (now (addrs .entry)))
+        (no 0 (r ∷ [])) (now (bytes .exit)) (now (lens .exit)) ⌝ }
 {
     let n = addrs.len();
     let mut gone: usize = 0;
@@ -44,7 +46,9 @@ pub fn sweep_judged(setup: Setup, bytes: &mut [u8], lens: &mut [u16], addrs: &[u
 }
 
 pub fn sweep(setup: Setup, bytes: &mut [u8], lens: &mut [u16], addrs: &[u64]) -> Swept
-    ensures { λ r. ⌜ Writes setup (now (bytes .entry)) (now (lens .entry)) (judging setup (now (bytes .entry)) (now (lens .entry)) (sweepIn (now (addrs .entry)))) (sweptPaper r) (now (bytes .exit)) (now (lens .exit)) ⌝ }
+    ensures { λ r. ⌜ Writes setup (now (bytes .entry)) (now (lens .entry))
+        (judging setup (now (bytes .entry)) (now (lens .entry)) (sweepIn (now (addrs .entry))))
+        (sweptPaper r) (now (bytes .exit)) (now (lens .exit)) ⌝ }
 {
     let j = store_public::judge(setup, bytes.len(), lens);
     match j {

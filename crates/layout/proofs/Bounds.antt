@@ -1,7 +1,8 @@
--- What the first three refusals judge, and what is known where none is given.
+-- What is known of the setup, the lengths of the lent lists and each length in the table, where none of refusals 1 to 3 is given.
+-- Assumes nothing.
 use Prim.Native.Nat.{_+_, _<_, _≤_, suc, zero, zero-le, ℕ}
 use Rattle.layout.proofs.Layouts.{setup-few}
-use Rattle.layout.specs.Judge.{Sized, Sound, buffersOk, lastSize, lenOk, lensOk, poolLensOk, poolOk, poolOkAt, rowOk, setupOk}
+use Rattle.layout.specs.Judge.{Sized, Sound, buffersOk, lastSize, lenOk, lensOk, poolLensOk, poolOkAt, rowOk, setupOk}
 use Rattle.layout.specs.Layout.{allBytes, allRows, bytesBefore, rowsBefore, sizeAt, slotsAt}
 use Rattle.layout.specs.Limits.{maxSlotSize, maxSlots, maxSubpools, storeFree}
 use Rattle.rules.proofs.All.{all-at, all-each}
@@ -25,6 +26,7 @@ pub record Bounds (su : Setup) (room : ℕ) (lens : List ℕ) : Type 0 where
   pub rows : (k s : ℕ) → k < su .pools → s < slotsAt su k
       → (getD lens (rowsBefore su k + s) 0 ≡ storeFree) ⊎ (getD lens (rowsBefore su k + s) 0 ≤ sizeAt su k)
 
+-- a length that passes is free, or within its slot
 or-cases : (size n : ℕ) → lenOk size n ≡ true → (n ≡ storeFree) ⊎ (n ≤ size)
 or-cases size n = go (eqb n storeFree) refl
   where
@@ -32,44 +34,14 @@ or-cases size n = go (eqb n storeFree) refl
     go true e q = inl (eqb-true n storeFree e)
     go false e q = inr (leb-true n size q)
 
-pool-sound : (last size slots : ℕ) → poolOk last size slots ≡ true → (last < size) × (size ≤ maxSlotSize) × (1 ≤ slots) × (slots ≤ maxSlots)
-pool-sound last size slots q =
-    let h = all-each _ q in
-    (ltb-true _ _ (h .0), leb-true _ _ (h .1 .0), leb-true _ _ (h .1 .1 .0), leb-true _ _ (h .1 .1 .1 .0))
-
-pub buffers-fit : (su : Setup) (room rows : ℕ) → buffersOk su room rows ≡ true → (allBytes su ≤ room) × (allRows su ≤ rows)
-unfolding buffersOk
-buffers-fit su room rows q = let b = all-each _ q in (leb-true _ _ (b .0), leb-true _ _ (b .1 .0))
-
-pub bounds : {su : Setup} {st le : List ℕ} → Sound su st le → Bounds su (length st) le
-unfolding setupOk lensOk lastSize
-bounds {su} {st} {le} ok =
-    let s = all-each _ (ok .setup) in
-    let b = buffers-fit su _ _ (ok .buffers) in
-    let pool : (k : ℕ) → k < su .pools
-    → (lastSize su k < sizeAt su k) × (sizeAt su k ≤ maxSlotSize) × (1 ≤ slotsAt su k) × (slotsAt su k ≤ maxSlots) =
-    λ k l. pool-sound _ _ _ (all-at (poolOkAt su) (su .pools) (s .1 .1 .0) k l) in
-    record {
-      few-pools = leb-true _ _ (s .1 .0);
-      sizes = λ k l. let h = pool k l in (omega arith, h .1);
-      slots = λ k l. let h = pool k l in (h .2, h .3);
-      bytes-fit = b .0;
-      rows-fit = b .1;
-      rows =
-          λ k i l m. or-cases _ _
-          (all-at (rowOk le (rowsBefore su k) (sizeAt su k)) (slotsAt su k)
-          (all-at (poolLensOk su le) (su .pools) (ok .lengths) k l) i m);
-    }
-
--- what 1 and 2 say of the lengths
-pub sized-fits : {su : Setup} {st le : List ℕ} → Sized su st le → (su .pools ≤ maxSubpools) × (allBytes su ≤ length st) × (allRows su ≤ length le)
-sized-fits {su} s = let b = buffers-fit su _ _ (s .buffers) in (setup-few su (s .setup), b .0, b .1)
-
 -- what a good setup says by itself
 module _ (su : Setup) (ok : setupOk su ≡ true) where
-  setup-pool : (k : ℕ) → k < su .pools → (lastSize su k < sizeAt su k) × (sizeAt su k ≤ maxSlotSize) × (1 ≤ slotsAt su k) × (slotsAt su k ≤ maxSlots)
+  pub setup-pool : (k : ℕ) → k < su .pools
+      → (lastSize su k < sizeAt su k) × (sizeAt su k ≤ maxSlotSize) × (1 ≤ slotsAt su k) × (slotsAt su k ≤ maxSlots)
   unfolding setupOk
-  setup-pool k l = pool-sound _ _ _ (all-at (poolOkAt su) (su .pools) (all-each _ ok .1 .1 .0) k l)
+  setup-pool k l =
+      let h = all-each _ (all-at (poolOkAt su) (su .pools) (all-each _ ok .1 .1 .0) k l) in
+      (ltb-true _ _ (h .0), leb-true _ _ (h .1 .0), leb-true _ _ (h .1 .1 .0), leb-true _ _ (h .1 .1 .1 .0))
 
   setup-rises : (k : ℕ) → suc k < su .pools → sizeAt su k < sizeAt su (suc k)
   unfolding lastSize
@@ -81,3 +53,27 @@ module _ (su : Setup) (ok : setupOk su ≡ true) where
       ⊎-elim (λ (e : j ≡ suc k). rw e (omega arith))
       (λ (m : j < suc k). let r = setup-rising j k (le-of-suc-le-suc m) (omega arith) in let t = setup-rises k l in omega arith)
       (eq-or-lt-of-le a)
+
+pub buffers-fit : (su : Setup) (room rows : ℕ) → buffersOk su room rows ≡ true → (allBytes su ≤ room) × (allRows su ≤ rows)
+unfolding buffersOk
+buffers-fit su room rows q = let b = all-each _ q in (leb-true _ _ (b .0), leb-true _ _ (b .1 .0))
+
+pub bounds : {su : Setup} {st le : List ℕ} → Sound su st le → Bounds su (length st) le
+unfolding lensOk
+bounds {su} {st} {le} ok =
+    let b = buffers-fit su _ _ (ok .buffers) in
+    record {
+      few-pools = setup-few su (ok .setup);
+      sizes = λ k l. let h = setup-pool su (ok .setup) k l in (omega arith, h .1);
+      slots = λ k l. let h = setup-pool su (ok .setup) k l in (h .2, h .3);
+      bytes-fit = b .0;
+      rows-fit = b .1;
+      rows =
+          λ k i l m. or-cases _ _
+          (all-at (rowOk le (rowsBefore su k) (sizeAt su k)) (slotsAt su k)
+          (all-at (poolLensOk su le) (su .pools) (ok .lengths) k l) i m);
+    }
+
+-- what 1 and 2 say of the lengths
+pub sized-fits : {su : Setup} {st le : List ℕ} → Sized su st le → (su .pools ≤ maxSubpools) × (allBytes su ≤ length st) × (allRows su ≤ length le)
+sized-fits {su} s = let b = buffers-fit su _ _ (s .buffers) in (setup-few su (s .setup), b .0, b .1)

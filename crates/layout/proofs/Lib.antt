@@ -1,4 +1,5 @@
--- The facts by which the setup's functions are proved.
+-- Laws of a setup: which slots it has, where their rows and bytes lie, and what judging says.
+pub mod Cases
 pub mod Layouts
 pub mod Faults
 pub mod Bounds

@@ -2,6 +2,7 @@
 -- Assumes nothing.
 use Prim.Native.Nat.{_+_, _-_, _<_, _≤_, suc, zero, ℕ}
 use Rattle.address.specs.Address.{poolOf, slotOf}
+use Rattle.layout.proofs.Cases.{SlotCase, has-slot, no-pool, no-slot, slot-case}
 use Rattle.layout.proofs.Layouts.{rows-within}
 use Rattle.layout.specs.Layout.{allRows, rowOf, rowsBefore, slotsAt}
 use Rattle.rules.specs.Tests.{unless}
@@ -36,26 +37,23 @@ module _ (su : Setup) (a : ℕ) where
 
   -- a row below all is that of a slot in the setup
   pub below-named : rowOf su a < allRows su → Named su a
-  below-named h = go (ltb (poolOf a) (su .pools)) refl
+  below-named h = go (slot-case su (poolOf a) (slotOf a))
     where
-      in-pool : (b : Bool) → ltb (slotOf a) (slotsAt su (poolOf a)) ≡ b → poolOf a < su .pools → Named su a
-      in-pool true t l = record { pool = l; slot = ltb-true _ _ t }
-      in-pool false t l = let e = row-no-slot l (ltb-false _ _ t) in absurd (omega arith)
-
-      go : (b : Bool) → ltb (poolOf a) (su .pools) ≡ b → Named su a
-      go true t = in-pool (ltb (slotOf a) (slotsAt su (poolOf a))) refl (ltb-true _ _ t)
-      go false t = let e = row-no-pool (ltb-false _ _ t) in absurd (omega arith)
+      go : SlotCase su (poolOf a) (slotOf a) → Named su a
+      go (no-pool l) = absurd (omega (arith, row-no-pool l))
+      go (no-slot l m) = absurd (omega (arith, row-no-slot l m))
+      go (has-slot l m) = record { pool = l; slot = m }
 
 -- copies of the decoded numbers, as the search has them
 module _ (su : Setup) (a k s r : ℕ) (p : k ≡ poolOf a) (q : s ≡ slotOf a) where
-  pub row-is-1 : su .pools ≤ k → r ≡ allRows su → r ≡ rowOf su a
-  row-is-1 l e = e ∙ sym (row-no-pool su a (rw p at l))
+  pub is-no-pool : su .pools ≤ k → r ≡ allRows su → r ≡ rowOf su a
+  is-no-pool l e = e ∙ sym (row-no-pool su a (rw p at l))
 
-  pub row-is-2 : k < su .pools → slotsAt su k ≤ s → r ≡ allRows su → r ≡ rowOf su a
-  row-is-2 l m e = e ∙ sym (row-no-slot su a (rw p at l) (rw (p, q) at m))
+  pub is-no-slot : k < su .pools → slotsAt su k ≤ s → r ≡ allRows su → r ≡ rowOf su a
+  is-no-slot l m e = e ∙ sym (row-no-slot su a (rw p at l) (rw (p, q) at m))
 
-  pub row-is-3 : k < su .pools → s < slotsAt su k → r ≡ rowsBefore su k + s → r ≡ rowOf su a
-  row-is-3 l m e = e ∙ ap₂ (λ (x y : ℕ). rowsBefore su x + y) p q ∙ sym (row-named su a (record { pool = rw p at l; slot = rw (p, q) at m }))
+  pub is-named : k < su .pools → s < slotsAt su k → r ≡ rowsBefore su k + s → r ≡ rowOf su a
+  is-named l m e = e ∙ ap₂ (λ (x y : ℕ). rowsBefore su x + y) p q ∙ sym (row-named su a (record { pool = rw p at l; slot = rw (p, q) at m }))
 
 -- each row of the setup is some slot's
 pub record Owner (su : Setup) (n r : ℕ) : Type 0 where

@@ -2,4 +2,3 @@
 pub mod Limits
 pub mod Layout
 pub mod Judge
-pub mod Inside

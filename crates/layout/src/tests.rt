@@ -1,10 +1,11 @@
 // The loops of the first three refusals' tests.
 ghost use mathlib.Core.Path.{_≡_};
+ghost use mathlib.Core.Bool.{false, true};
 ghost use Prim.Native.Nat.{_+_, _<_, _≤_};
 ghost use lib.ListN.{length};
 ghost use Rattle.rules.specs.Tests.{allBelow};
 ghost use Rattle.layout.specs.Limits.{maxSubpools};
-ghost use Rattle.layout.specs.Inside.{faultOf};
+ghost use Rattle.rules.specs.Inside.{OneIfWrong};
 ghost use Rattle.layout.specs.Judge.{lenOk, poolOk, poolOkAt, rowOk};
 use crate::MAX_SLOT_SIZE;
 use crate::MAX_SLOTS;
@@ -61,7 +62,7 @@ pub fn pool_lens_ok(lens: &[u16], base: usize, count: usize, size: u16) -> bool
 
 // 1 where a length is neither free nor within its slot.
 fn over(w: u16, size: u16) -> u16
-    ensures { λ r. ⌜ r ≡ faultOf (lenOk size w) ⌝ }
+    ensures { λ r. ⌜ OneIfWrong (lenOk size w ≡ true) (lenOk size w ≡ false) r ⌝ }
 {
     if w == STORE_FREE {
         return 0;

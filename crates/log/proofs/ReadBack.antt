@@ -4,12 +4,12 @@ use Prim.Native.Nat.{_*_, _+_, _-_, _<_, _^_, _≤_, suc, ℕ}
 use Rattle.log.proofs.Sizes.{size-offsets, size-record, size-records, total-more, written}
 use Rattle.log.specs.Log.{LogRecord, logBytes, offsets, recordBytes, records, recordsAt, total}
 use Rattle.log.specs.Reading.{countOf, endOf, offsetOf, readFrom, readLog, recordIn, totalOf}
-use Rattle.words.proofs.RoundTrip.{number-bytes, number-same}
+use Rattle.words.proofs.RoundTrip.{number-at}
 use Rattle.words.proofs.Sets.{length-bytes}
 use Rattle.words.specs.Words.{bytesOf, number}
 use borrow.Author.Tests.{le-ltb, lt-ltb}
-use lib.ListN.{List·getD-append, drop, getD, length, length-append, take}
-use lib.Seq.{drop-at, getD-append-add, getD-at, sets, take-at}
+use lib.ListN.{drop, getD, length, length-append, take}
+use lib.Seq.{drop-at, getD-at, sets, take-at}
 use mathlib.Core.Bool.{Bool, cond}
 use mathlib.Core.List.{List, [], _++_, _∷_, append-assoc}
 use mathlib.Core.Path.{_∙_, _≡_, ap, ap₂, refl, sym}
@@ -24,17 +24,6 @@ pub record PlainOne (r : LogRecord) : Type 0 where
 abbrev pub Plain : List LogRecord → Type 0
 Plain [] = Unit {0}
 Plain (r ∷ rs) = PlainOne r × Plain rs
-
--- a number, read where its bytes stand
-pub number-at : (p q : List ℕ) (at k v : ℕ) → length p ≡ at → v < 256 ^ k → number k at (p ++ (bytesOf k v ++ q)) ≡ v
-number-at p q at k v e h =
-    number-same k at 0 (p ++ (bytesOf k v ++ q)) (bytesOf k v) (λ j m. byte j m) ∙ number-bytes k v h
-  where
-    byte : (j : ℕ) → j < k → getD (p ++ (bytesOf k v ++ q)) (at + j) 0 ≡ getD (bytesOf k v) (0 + j) 0
-    byte j m =
-        ap (λ (n : ℕ). getD (p ++ (bytesOf k v ++ q)) (n + j) 0) (sym e) ∙ getD-append-add p (bytesOf k v ++ q) j 0
-        ∙ List·getD-append (bytesOf k v) q 0 j (omega (arith, length-bytes k v))
-        ∙ ap (λ (n : ℕ). getD (bytesOf k v) n 0) (sym (zero-add j))
 
 -- the parts of a record's bytes among others, grouped around each in turn
 module _ (p q a b d : List ℕ) (x : ℕ) where

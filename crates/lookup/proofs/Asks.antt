@@ -1,8 +1,8 @@
 -- The calls that change nothing: what they answer, from what the code read.
+-- Assumes nothing.
 use Prim.Native.Nat.{_+_, _<_, _≤_, ℕ}
 use Rattle.address.specs.Address.{addressOf, poolOf, slotOf}
 use Rattle.layout.specs.Judge.{Sound}
-use Rattle.layout.specs.Layout.{slotsAt}
 use Rattle.layout.specs.Limits.{maxSlotSize, storeFree}
 use Rattle.lookup.proofs.Judging.{judging-fine}
 use Rattle.lookup.proofs.Packets.{Packet, spot-refused}
@@ -11,19 +11,17 @@ use Rattle.lookup.specs.Promise.{Finds, Lends, Reads, foundAs, packetSta
 use Rattle.lookup.specs.Refusals.{lengthPaper, paper, presencePaper}
 use Rattle.rules.specs.Papers.{Outcome, Paper, after, done, no, refused, says}
 use Rattle.rules.specs.Tests.{unless}
-use Rattle.slots.proofs.Find.{find-held, find-no-pool, find-no-slot, find-vacant}
-use Rattle.slots.proofs.Place.{valid-at, valid-pool, valid-slot, valid-yes}
-use Rattle.slots.specs.Inside.{cellOf, spotOf, validated}
+use Rattle.slots.proofs.Place.{held-there, invalid-cases, vacant-there}
+use Rattle.slots.specs.Inside.{spotOf, validated}
 use Rattle.slots.specs.Pools.{Found, find, held, noPool, noSlot, over, vacant}
-use Rattle.slots.specs.View.{bytesAt, part, view}
-use borrow.Author.Tests.{le-leb, lt-leb, ltb-false, ltb-true}
-use lib.Dec.{ltb}
+use Rattle.slots.specs.View.{part, view}
+use borrow.Author.Tests.{le-leb, lt-leb}
 use lib.ListN.{getD, length, take}
 use lib.Seq.{take-take}
-use mathlib.Core.Bool.{Bool, false, true}
+use mathlib.Core.Bool.{false, true}
 use mathlib.Core.List.{List, [], _∷_}
-use mathlib.Core.Logic.{_⊎_, inl, inr, ⊎-elim}
-use mathlib.Core.Path.{_∙_, _≡_, ap, ap₂, refl, subst, sym}
+use mathlib.Core.Logic.{⊎-elim}
+use mathlib.Core.Path.{_∙_, _≡_, ap, refl, subst, sym}
 use native.Mathlib.Omega.{arith}
 use Rattle.layout.specs.declared.Setup.{Setup}
 use Rattle.lookup.specs.declared.Span.{Span}
@@ -137,80 +135,30 @@ module _ (su : Setup) (st le : List ℕ) (a : ℕ) where
       record { bytes = rw o; start = rw o (g .inside .0); inside = g .inside .1 }
 
 -- presence and length
-spot-paper : Spot → Paper
-spot-paper (Sp.Refused e) = paper e
-spot-paper (Sp.At c) = no 0 []
-
-clash : (c : Cell) (e : StoreRefusal) → Sp.At c ≡ Sp.Refused e → _≡_ {A = ℕ} 0 1
-clash c e q = cc
-
 module _ (su : Setup) (st le : List ℕ) (a k s : ℕ) (p : k ≡ poolOf a) (q : s ≡ slotOf a) where
-  invalid-cases : (e : StoreRefusal) → validated su k s ≡ Sp.Refused e
-      → ((find (view su st le) a ≡ noPool) × (paper e ≡ no 16 (poolOf a ∷ []))) ⊎
-      ((find (view su st le) a ≡ noSlot) × (paper e ≡ no 17 (slotOf a ∷ [])))
-  unfolding paper spot-paper
-  invalid-cases e v = go (ltb (poolOf a) (su .pools)) refl
-    where
-      in-pool : (b : Bool) → ltb (slotOf a) (slotsAt su (poolOf a)) ≡ b → poolOf a < su .pools
-          → ((find (view su st le) a ≡ noPool) × (paper e ≡ no 16 (poolOf a ∷ []))) ⊎
-          ((find (view su st le) a ≡ noSlot) × (paper e ≡ no 17 (slotOf a ∷ [])))
-      in-pool true t l =
-          let z : _≡_ {A = ℕ} 0 1 = clash _ _ (valid-yes su _ _ l (ltb-true _ _ t) ∙ ap₂ (validated su) (sym p) (sym q) ∙ v) in
-          absurd (omega arith)
-      in-pool false t l =
-          inr (
-            find-no-slot su st le (poolOf a) (slotOf a) l (ltb-false _ _ t),
-            ap spot-paper (sym (valid-slot su _ _ l (ltb-false _ _ t) ∙ ap₂ (validated su) (sym p) (sym q) ∙ v)),
-          )
-
-      go : (b : Bool) → ltb (poolOf a) (su .pools) ≡ b
-          → ((find (view su st le) a ≡ noPool) × (paper e ≡ no 16 (poolOf a ∷ []))) ⊎
-          ((find (view su st le) a ≡ noSlot) × (paper e ≡ no 17 (slotOf a ∷ [])))
-      go true t = in-pool (ltb (slotOf a) (slotsAt su (poolOf a))) refl (ltb-true _ _ t)
-      go false t =
-          inl (
-            find-no-pool su st le (poolOf a) (slotOf a) (ltb-false _ _ t),
-            ap spot-paper (sym (valid-pool su _ (slotOf a) (ltb-false _ _ t) ∙ ap₂ (validated su) (sym p) (sym q) ∙ v)),
-          )
-
-  here : (c : Cell) → validated su k s ≡ Sp.At c → (poolOf a < su .pools) × (slotOf a < slotsAt su (poolOf a)) × (c ≡ cellOf su (poolOf a) (slotOf a))
-  here c v = valid-at su (poolOf a) (slotOf a) c (ap₂ (validated su) (sym p) (sym q) ∙ v)
-
-  here-vacant : (c : Cell) → validated su k s ≡ Sp.At c → getD le (c .row) 0 ≡ storeFree → find (view su st le) a ≡ vacant
-  here-vacant c v e =
-      let i = here c v in
-      find-vacant su st le (poolOf a) (slotOf a) (i .0) (i .1) (ap (λ (x : Cell). getD le (x .row) 0) (sym (i .2)) ∙ e)
-
-  here-held : (c : Cell) → validated su k s ≡ Sp.At c → (getD le (c .row) 0 ≡ storeFree → ⊥)
-      → find (view su st le) a ≡ held (getD le (c .row) 0) (bytesAt su st (poolOf a) (slotOf a))
-  here-held c v e =
-      let i = here c v in
-      find-held su st le (poolOf a) (slotOf a) (i .0) (i .1) (λ g. e (ap (λ (x : Cell). getD le (x .row) 0) (i .2) ∙ g))
-      ∙ ap (λ (x : Cell). held (getD le (x .row) 0) (bytesAt su st (poolOf a) (slotOf a))) (sym (i .2))
-
   pub has-refused : (e : StoreRefusal) → validated su k s ≡ Sp.Refused e → presencePaper (Pr.Refused e) ≡ says (hasIn (view su st le) a)
-  unfolding hasIn ifNamed says presencePaper
-  has-refused e v = ⊎-elim (λ h. rw (h .0) (h .1)) (λ h. rw (h .0) (h .1)) (invalid-cases e v)
+  unfolding hasIn ifNamed says presencePaper paper
+  has-refused e v = ⊎-elim (λ h. rw (h .0, h .1)) (λ h. rw (h .0, h .1)) (invalid-cases su st le a k s p q e v)
 
   pub has-vacant : (c : Cell) → validated su k s ≡ Sp.At c → getD le (c .row) 0 ≡ storeFree
       → presencePaper (Pr.Is false) ≡ says (hasIn (view su st le) a)
   unfolding hasIn ifNamed says presencePaper
-  has-vacant c v e = rw (here-vacant c v e)
+  has-vacant c v e = rw (vacant-there su st le a k s p q c v e)
 
   pub has-held : (c : Cell) → validated su k s ≡ Sp.At c → (getD le (c .row) 0 ≡ storeFree → ⊥)
       → presencePaper (Pr.Is true) ≡ says (hasIn (view su st le) a)
   unfolding hasIn ifNamed says presencePaper
-  has-held c v e = rw (here-held c v e)
+  has-held c v e = rw (held-there su st le a k s p q c v e)
 
   pub len-refused : (e : StoreRefusal) → validated su k s ≡ Sp.Refused e → lengthPaper (Le.Refused e) ≡ says (lenIn (view su st le) a)
-  unfolding lenIn ifNamed says lengthPaper
-  len-refused e v = ⊎-elim (λ h. rw (h .0) (h .1)) (λ h. rw (h .0) (h .1)) (invalid-cases e v)
+  unfolding lenIn ifNamed says lengthPaper paper
+  len-refused e v = ⊎-elim (λ h. rw (h .0, h .1)) (λ h. rw (h .0, h .1)) (invalid-cases su st le a k s p q e v)
 
   pub len-vacant : (c : Cell) → validated su k s ≡ Sp.At c → getD le (c .row) 0 ≡ storeFree → lengthPaper (Le.Of 0) ≡ says (lenIn (view su st le) a)
   unfolding lenIn ifNamed says lengthPaper
-  len-vacant c v e = rw (here-vacant c v e)
+  len-vacant c v e = rw (vacant-there su st le a k s p q c v e)
 
   pub len-held : (c : Cell) → validated su k s ≡ Sp.At c → (getD le (c .row) 0 ≡ storeFree → ⊥) → (n : ℕ) → n ≡ getD le (c .row) 0
       → lengthPaper (Le.Of n) ≡ says (lenIn (view su st le) a)
   unfolding lenIn ifNamed says lengthPaper
-  len-held c v e n f = rw (here-held c v e, f)
+  len-held c v e n f = rw (held-there su st le a k s p q c v e, f)

@@ -1,7 +1,9 @@
 -- What is known where the search for an address has found a packet, or refused.
+-- Assumes nothing.
 use Prim.Native.Nat.{_+_, _<_, _≤_, ℕ}
 use Rattle.address.specs.Address.{poolOf, slotOf}
 use Rattle.layout.proofs.Bounds.{bounds}
+use Rattle.layout.proofs.Cases.{SlotCase, has-slot, no-pool, no-slot, slot-case}
 use Rattle.layout.specs.Judge.{Sound}
 use Rattle.layout.specs.Layout.{rowsBefore, slotsAt}
 use Rattle.layout.specs.Limits.{storeFree}
@@ -9,14 +11,11 @@ use Rattle.lookup.proofs.Within.{Within, within}
 use Rattle.lookup.specs.Calls.{ifHeld, ifNamed}
 use Rattle.lookup.specs.Refusals.{paper}
 use Rattle.rules.specs.Papers.{Outcome, Paper, no, refused}
-use Rattle.slots.proofs.Find.{find-held, find-no-pool, find-no-slot, find-vacant}
+use Rattle.slots.proofs.Find.{find-held, find-no-pool, find-no-slot, find-vacant, found-apart}
 use Rattle.slots.specs.Inside.{cellOf, spotOf}
 use Rattle.slots.specs.Pools.{Found, find, findAt, held, noPool, noSlot, vacant}
 use Rattle.slots.specs.View.{bytesAt, part, view}
-use borrow.Author.Tests.{ltb-false, ltb-true}
-use lib.Dec.{ltb}
 use lib.ListN.{getD, length}
-use mathlib.Core.Bool.{Bool, false, true}
 use mathlib.Core.List.{List, []}
 use mathlib.Core.Logic.{⊎-elim}
 use mathlib.Core.Path.{_∙_, _≡_, ap, refl, subst, sym}
@@ -33,15 +32,6 @@ pub record Packet (su : Setup) (st le : List ℕ) (a : ℕ) (c : Cell) : Type 0 
   pub there : find (view su st le) a ≡ held (getD le (c .row) 0) (part (c .from) (c .size) st)
   pub short : getD le (c .row) 0 ≤ c .size
 
-held-is : (x : Found) (n : ℕ) (b : List ℕ) → x ≡ noPool → x ≡ held n b → ⊥
-held-is x n b p q = let z : _≡_ {A = ℕ} 0 1 = cc in omega arith
-
-held-slot : (x : Found) (n : ℕ) (b : List ℕ) → x ≡ noSlot → x ≡ held n b → ⊥
-held-slot x n b p q = let z : _≡_ {A = ℕ} 0 1 = cc in omega arith
-
-pub held-vacant : (x : Found) (n : ℕ) (b : List ℕ) → x ≡ vacant → x ≡ held n b → ⊥
-held-vacant x n b p q = let z : _≡_ {A = ℕ} 0 1 = cc in omega arith
-
 pub spot-at : (su : Setup) (a : ℕ) (x : Found) (c : Cell) → spotOf su a x ≡ At c
     → (n : ℕ) × (b : List ℕ) × (x ≡ held n b) × (c ≡ cellOf su (poolOf a) (slotOf a))
 unfolding spotOf
@@ -50,30 +40,27 @@ spot-at su a noSlot c q = let z : _≡_ {A = ℕ} 0 1 = cc in absurd (omega arit
 spot-at su a vacant c q = let z : _≡_ {A = ℕ} 0 1 = cc in absurd (omega arith)
 spot-at su a (held n b) c q = (n, b, refl, cc)
 
-paper-of : Spot → Paper
-paper-of (Refused e) = paper e
-paper-of (At c) = no 0 []
+-- what a search that refused says
+unfoldable pub spotPaper : Spot → Paper
+spotPaper (Refused e) = paper e
+spotPaper (At c) = no 0 []
 
 pub spot-refused : {A : Type 0} (su : Setup) (a : ℕ) (x : Found) (e : StoreRefusal) (f : ℕ → List ℕ → Outcome A) → spotOf su a x ≡ Refused e
     → ifHeld a x f ≡ refused (paper e)
-unfolding spotOf ifHeld ifNamed paper-of paper
-spot-refused su a noPool e f q = ap refused (ap paper-of q)
-spot-refused su a noSlot e f q = ap refused (ap paper-of q)
-spot-refused su a vacant e f q = ap refused (ap paper-of q)
+unfolding spotOf ifHeld ifNamed spotPaper paper
+spot-refused su a noPool e f q = ap refused (ap spotPaper q)
+spot-refused su a noSlot e f q = ap refused (ap spotPaper q)
+spot-refused su a vacant e f q = ap refused (ap spotPaper q)
 spot-refused su a (held n b) e f q = let z : _≡_ {A = ℕ} 0 1 = cc in absurd (omega arith)
 
 module _ (su : Setup) (st le : List ℕ) (k i : ℕ) (n : ℕ) (b : List ℕ) (q : findAt (view su st le) k i ≡ held n b) where
   pub held-inside : (k < su .pools) × (i < slotsAt su k) × (getD le (rowsBefore su k + i) 0 ≡ storeFree → ⊥)
-  held-inside = in-pool (ltb k (su .pools)) refl
+  held-inside = go (slot-case su k i)
     where
-      in-slot : (t : Bool) → ltb i (slotsAt su k) ≡ t → k < su .pools
-          → (k < su .pools) × (i < slotsAt su k) × (getD le (rowsBefore su k + i) 0 ≡ storeFree → ⊥)
-      in-slot true e l = (l, ltb-true _ _ e, λ f. held-vacant _ n b (find-vacant su st le k i l (ltb-true _ _ e) f) q)
-      in-slot false e l = absurd (held-slot _ n b (find-no-slot su st le k i l (ltb-false _ _ e)) q)
-
-      in-pool : (t : Bool) → ltb k (su .pools) ≡ t → (k < su .pools) × (i < slotsAt su k) × (getD le (rowsBefore su k + i) 0 ≡ storeFree → ⊥)
-      in-pool true e = in-slot (ltb i (slotsAt su k)) refl (ltb-true _ _ e)
-      in-pool false e = absurd (held-is _ n b (find-no-pool su st le k i (ltb-false _ _ e)) q)
+      go : SlotCase su k i → (k < su .pools) × (i < slotsAt su k) × (getD le (rowsBefore su k + i) 0 ≡ storeFree → ⊥)
+      go (no-pool l) = absurd (found-apart tt (find-no-pool su st le k i l) q)
+      go (no-slot l m) = absurd (found-apart tt (find-no-slot su st le k i l m) q)
+      go (has-slot l m) = (l, m, λ f. found-apart tt (find-vacant su st le k i l m f) q)
 
 module _ (su : Setup) (st le : List ℕ) (fine : Sound su st le) (a : ℕ) where
   pub packet-there : (n : ℕ) (b : List ℕ) → find (view su st le) a ≡ held n b → Packet su st le a (cellOf su (poolOf a) (slotOf a))

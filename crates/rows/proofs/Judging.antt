@@ -4,10 +4,11 @@ use Prim.Native.Nat.{_*_, _+_, _-_, _<_, _≤_, ℕ}
 use Rattle.rows.proofs.Order.{InRange, ordered-cons, range-true}
 use Rattle.rows.proofs.Rows.{drop-row, past-end}
 use Rattle.rows.specs.Entries.{row, time, unpack}
-use Rattle.rows.specs.Inside.{Falls, Fault}
+use Rattle.rows.specs.Inside.{Falls}
 use Rattle.rows.specs.Order.{ordered, orderedFrom}
 use Rattle.rules.proofs.All.{fails}
 use Rattle.rules.proofs.Cases.{le-or-lt}
+use Rattle.rules.specs.Inside.{OneIfWrong}
 use Rattle.time.specs.Time.{far, giga}
 use borrow.Author.Tests.{eq-eqb, le-leb, ne-eqb}
 use lib.Dec.{eqb}
@@ -46,7 +47,8 @@ pub judge-first : (n : ℕ) (w : List ℕ) → Passed n w 0 0 0 0
 judge-first n w = record { few = omega arith; range = λ e. omega arith; fine = λ e. refl; bad = λ l. absurd (omega arith) }
 
 module _ (n : ℕ) (w : List ℕ) (i f s v a b d : ℕ) (l : i < n) (p : Passed n w i f s v)
-    (A : Fault (row w i .secs ≤ far + far) (far + far < row w i .secs) a) (B : Fault (row w i .nanos ≤ giga - 1) (giga - 1 < row w i .nanos) b)
+    (A : OneIfWrong (row w i .secs ≤ far + far) (far + far < row w i .secs) a)
+    (B : OneIfWrong (row w i .nanos ≤ giga - 1) (giga - 1 < row w i .nanos) b)
     (D : Falls s v (row w i .secs) (row w i .nanos) d) where
   wrong : f ≡ 0 → 0 < f + a + b + d → InRange (row w i) → s * giga + v ≤ time (row w i) → ⊥
   wrong e h r g =

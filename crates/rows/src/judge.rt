@@ -3,7 +3,8 @@ use crate::ROW;
 ghost use mathlib.Core.Path.{_≡_};
 ghost use Prim.Native.Nat.{_<_, _≤_};
 ghost use Rattle.rows.specs.Entries.{unpack};
-ghost use Rattle.rows.specs.Inside.{Falls, Fault};
+ghost use Rattle.rows.specs.Inside.{Falls};
+ghost use Rattle.rules.specs.Inside.{OneIfWrong};
 ghost use Rattle.rows.specs.Order.{Held, ordered};
 
 // Whether each row's time is in range and no row is before the one that it follows.
@@ -28,7 +29,7 @@ pub fn in_order(rows: &[u64], count: usize) -> bool
 }
 
 fn above(x: u64, most: u64) -> u64
-    ensures { λ r. ⌜ Fault (x ≤ most) (most < x) r ⌝ }
+    ensures { λ r. ⌜ OneIfWrong (x ≤ most) (most < x) r ⌝ }
 {
     if x > most { 1 } else { 0 }
 }

@@ -1,17 +1,31 @@
 -- Finding an address in the view, by the numbers of the lent lists.
+-- Assumes nothing.
 use Prim.Native.Nat.{_+_, _<_, _≤_, suc, zero, ℕ}
 use Rattle.layout.specs.Layout.{rowsBefore, slotsAt}
 use Rattle.layout.specs.Limits.{storeFree}
-use Rattle.slots.specs.Pools.{Pool, Slot, findAt, findSlot, free, held, noPool, noSlot, seen, taken, vacant}
+use Rattle.slots.specs.Pools.{Found, Pool, Slot, findAt, findSlot, free, held, noPool, noSlot, seen, taken, vacant}
 use Rattle.slots.specs.View.{bytesAt, lenAt, marked, poolIn, slotFrom, slotIn, view}
 use Rattle.rules.specs.Lists.{each}
 use borrow.Author.Tests.{eq-eqb, ne-eqb}
+use lib.Dec.{T, T-not, eqb, eqb-refl}
 use lib.ListN.{getD}
+use mathlib.Core.Bool.{not}
 use mathlib.Core.List.{List}
-use mathlib.Core.Path.{_∙_, _≡_, ap, refl}
+use mathlib.Core.Path.{_∙_, _≡_, ap, refl, subst, sym}
 use native.Mathlib.Nat.{not-suc-le-zero}
 use native.Mathlib.Omega.{arith}
 use Rattle.layout.specs.declared.Setup.{Setup}
+
+-- what is found is not two things
+abbrev pub kind : Found → ℕ
+kind noPool = 0
+kind noSlot = 1
+kind vacant = 2
+kind (held n b) = 3
+
+pub found-apart : {x y z : Found} → T (not (eqb (kind y) (kind z))) → x ≡ y → x ≡ z → ⊥
+found-apart {x} {y} {z} t e q =
+    T-not (eqb (kind y) (kind z)) t (subst (λ (m : ℕ). T (eqb (kind y) m)) (ap kind (sym e ∙ q)) (eqb-refl (kind y)))
 
 pub slot-free : (w : ℕ) (b : List ℕ) → w ≡ storeFree → slotFrom w b ≡ free b
 unfolding marked

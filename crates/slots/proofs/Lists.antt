@@ -40,13 +40,13 @@ pub part-length : (from size : ℕ) (st : List ℕ) → from + size ≤ length s
 unfolding part
 part-length from size st l = simp (length-take, length-drop) (omega arith)
 
+pub cut-length : (from size : ℕ) (st : List ℕ) → from + size ≤ length st → length (take (from + size - from) (drop from st)) ≡ size
+cut-length from size st l = ap length (part-is from size st) ∙ part-length from size st l
+
 pub filled :
     (v from size : ℕ) (st : List ℕ) → from + size ≤ length st
     → _≡_ {A = List ℕ} (replicate (length (take (from + size - from) (drop from st))) v) (replicate size v)
-filled v from size st l = ap (λ (n : ℕ). replicate n v) (ap length (part-is from size st) ∙ part-length from size st l)
-
-pub cut-length : (from size : ℕ) (st : List ℕ) → from + size ≤ length st → length (take (from + size - from) (drop from st)) ≡ size
-cut-length from size st l = ap length (part-is from size st) ∙ part-length from size st l
+filled v from size st l = ap (λ (n : ℕ). replicate n v) (cut-length from size st l)
 
 pub written : (from size : ℕ) (st da : List ℕ) → over da (take (from + size - from) (drop from st)) ≡ over da (part from size st)
 written from size st da = ap (over da) (part-is from size st)
@@ -77,8 +77,3 @@ put-over from size ys st h l =
     ∙ ap (λ (x : List ℕ). ys ++ x)
     (sym (drop-append-le (length ys) (take size (drop from st)) (drop size (drop from st)) (omega arith))
     ∙ ap (drop (length ys)) (take-append-drop size (drop from st))))
-
-pub set-get : (l : List ℕ) (i : ℕ) → set l i (getD l i 0) ≡ l
-set-get [] i = refl
-set-get (x ∷ l) zero = refl
-set-get (x ∷ l) (suc i) = ap (λ (t : List ℕ). x ∷ t) (set-get l i)

@@ -1,40 +1,40 @@
 -- The cases of the searches: an address in the setup, and a free slot.
+-- Assumes nothing.
 use Prim.Native.Nat.{_+_, _-_, _<_, _≤_, ℕ}
 use Rattle.address.specs.Address.{addressOf, poolOf, slotOf}
+use Rattle.layout.proofs.Cases.{SlotCase, has-slot, no-pool, no-slot, slot-case}
 use Rattle.layout.proofs.Layouts.{rows-within}
 use Rattle.layout.specs.Layout.{allRows, rowsBefore, slotsAt}
 use Rattle.layout.specs.Limits.{storeFree}
 use Rattle.rules.proofs.First.{first-end-from, first-stop-from}
+use Rattle.rules.proofs.Order.{passed}
 use Rattle.rules.specs.Tests.{firstFrom, unless}
 use Rattle.slots.proofs.Find.{find-held, find-no-pool, find-no-slot, find-vacant}
 use Rattle.slots.specs.Inside.{cellOf, freeRow, freeSlot, hasFree, lastTried, roomIn, spotOf, validated}
-use Rattle.slots.specs.Pools.{find}
-use Rattle.slots.specs.View.{view}
-use borrow.Author.Tests.{le-ltb, lt-ltb, ltb-false, ltb-true}
-use lib.Dec.{ltb}
+use Rattle.slots.specs.Pools.{find, held, noPool, noSlot, vacant}
+use Rattle.slots.specs.View.{bytesAt, view}
+use borrow.Author.Tests.{le-ltb, lt-ltb, ltb-true}
 use lib.ListN.{getD, length}
 use mathlib.Core.Bool.{Bool, cond, false, true}
 use mathlib.Core.List.{List}
-use mathlib.Core.Path.{_∙_, _≡_, ap, ap₂, refl, subst, sym}
+use mathlib.Core.Logic.{_⊎_, inl, inr, ⊎-elim}
+use mathlib.Core.Path.{_∙_, _≡_, ap, ap₂, subst, sym}
 use native.Mathlib.Omega.{arith}
 use Rattle.layout.specs.declared.Setup.{Setup}
 use Rattle.slots.specs.declared.Cell.{Cell}
 use Rattle.slots.specs.declared.StoreRefusal.{StoreRefusal}
 use Rattle.slots.specs.declared.StoreRefusal.the-variants.{DataDoesNotExist, InvalidStoreId, StoreFull}
 use Rattle.slots.specs.declared.StoreIdError.the-variants.{InvalidSubpool, InvalidPacketIdx}
-use Rattle.slots.specs.declared.search.Spot.{Spot}
 use Rattle.slots.specs.declared.search.Spot.the-variants.{Refused, At}
-
-at-unless : (b : Bool) (e : StoreRefusal) (x : Spot) (c : Cell) → unless b (Refused e) x ≡ At c → (b ≡ true) × (x ≡ At c)
-unfolding unless
-at-unless true e x c q = (refl, q)
-at-unless false e x c q = let z : _≡_ {A = ℕ} 0 1 = cc in absurd (omega arith)
 
 at-same : (x y : Cell) → At x ≡ At y → x ≡ y
 at-same x y e = cc
 
-clash : (c : Cell) (e : StoreRefusal) → At c ≡ Refused e → _≡_ {A = ℕ} 0 1
-clash c e q = cc
+refused-same : (e d : StoreRefusal) → Refused e ≡ Refused d → e ≡ d
+refused-same e d q = cc
+
+no-cell : (e : StoreRefusal) (c : Cell) → Refused e ≡ At c → ⊥
+no-cell e c q = let z : _≡_ {A = ℕ} 0 1 = cc in omega arith
 
 module _ (su : Setup) (k s : ℕ) where
   pub valid-pool : su .pools ≤ k → Refused (InvalidStoreId (InvalidSubpool k)) ≡ validated su k s
@@ -53,8 +53,8 @@ module _ (su : Setup) (k s : ℕ) where
   pub valid-at : (c : Cell) → validated su k s ≡ At c → (k < su .pools) × (s < slotsAt su k) × (c ≡ cellOf su k s)
   unfolding validated
   valid-at c q =
-      let a = at-unless _ _ _ _ q in
-      let b = at-unless _ _ _ _ (a .1) in
+      let a = passed _ _ _ _ (no-cell _ c) q in
+      let b = passed _ _ _ _ (no-cell _ c) (a .1) in
       (ltb-true _ _ (a .0), ltb-true _ _ (b .0), sym (at-same _ _ (b .1)))
 
 pub free-slot : (su : Setup) (lens : List ℕ) (k base count s : ℕ) → base ≡ rowsBefore su k → count ≡ slotsAt su k
@@ -81,58 +81,47 @@ last-bounds su k l = go (su .spill)
     go true = (l, omega arith)
     go false = (omega arith, omega arith)
 
--- the search for an address: by what the setup and the row say
-module _ (su : Setup) (st le : List ℕ) (a : ℕ) where
-  pub spot-no-pool : su .pools ≤ poolOf a → Refused (InvalidStoreId (InvalidSubpool (poolOf a))) ≡ spotOf su a (find (view su st le) a)
-  unfolding spotOf
-  spot-no-pool l = rw (find-no-pool su st le (poolOf a) (slotOf a) l)
-
-  pub spot-no-slot : poolOf a < su .pools → slotsAt su (poolOf a) ≤ slotOf a
-      → Refused (InvalidStoreId (InvalidPacketIdx (slotOf a))) ≡ spotOf su a (find (view su st le) a)
-  unfolding spotOf
-  spot-no-slot l m = rw (find-no-slot su st le (poolOf a) (slotOf a) l m)
-
-  pub spot-vacant : poolOf a < su .pools → slotOf a < slotsAt su (poolOf a) → getD le (rowsBefore su (poolOf a) + slotOf a) 0 ≡ storeFree
-      → Refused (DataDoesNotExist (addressOf (poolOf a) (slotOf a))) ≡ spotOf su a (find (view su st le) a)
-  unfolding spotOf
-  spot-vacant l m e = rw (find-vacant su st le (poolOf a) (slotOf a) l m e)
-
-  pub spot-held : poolOf a < su .pools → slotOf a < slotsAt su (poolOf a) → (getD le (rowsBefore su (poolOf a) + slotOf a) 0 ≡ storeFree → ⊥)
-      → At (cellOf su (poolOf a) (slotOf a)) ≡ spotOf su a (find (view su st le) a)
-  unfolding spotOf
-  spot-held l m e = rw (find-held su st le (poolOf a) (slotOf a) l m e)
-
-  -- what `validate` refuses is refused
-  pub spot-invalid : (e : StoreRefusal) → validated su (poolOf a) (slotOf a) ≡ Refused e → Refused e ≡ spotOf su a (find (view su st le) a)
-  spot-invalid e q = go (ltb (poolOf a) (su .pools)) refl
-    where
-      in-pool : (b : Bool) → ltb (slotOf a) (slotsAt su (poolOf a)) ≡ b → poolOf a < su .pools → Refused e ≡ spotOf su a (find (view su st le) a)
-      in-pool true t l = let z : _≡_ {A = ℕ} 0 1 = clash _ _ (valid-yes su _ _ l (ltb-true _ _ t) ∙ q) in absurd (omega arith)
-      in-pool false t l = sym q ∙ sym (valid-slot su _ _ l (ltb-false _ _ t)) ∙ spot-no-slot l (ltb-false _ _ t)
-
-      go : (b : Bool) → ltb (poolOf a) (su .pools) ≡ b → Refused e ≡ spotOf su a (find (view su st le) a)
-      go true t = in-pool (ltb (slotOf a) (slotsAt su (poolOf a))) refl (ltb-true _ _ t)
-      go false t = sym q ∙ sym (valid-pool su _ (slotOf a) (ltb-false _ _ t)) ∙ spot-no-pool (ltb-false _ _ t)
-
--- the same, of copies of the decoded numbers
+-- what `validate` answers of copies of an address's numbers says what the view finds, and so what `locate` answers
 module _ (su : Setup) (st le : List ℕ) (a k s : ℕ) (p : k ≡ poolOf a) (q : s ≡ slotOf a) where
-  pub found-invalid : (e : StoreRefusal) → validated su k s ≡ Refused e → Refused e ≡ spotOf su a (find (view su st le) a)
-  found-invalid e v = spot-invalid su st le a e (ap₂ (validated su) (sym p) (sym q) ∙ v)
+  pub invalid-cases : (e : StoreRefusal) → validated su k s ≡ Refused e
+      → ((find (view su st le) a ≡ noPool) × (e ≡ InvalidStoreId (InvalidSubpool (poolOf a))))
+      ⊎ ((find (view su st le) a ≡ noSlot) × (e ≡ InvalidStoreId (InvalidPacketIdx (slotOf a))))
+  invalid-cases e v = go (slot-case su (poolOf a) (slotOf a)) (sym v ∙ ap₂ (validated su) p q)
+    where
+      go : SlotCase su (poolOf a) (slotOf a) → Refused e ≡ validated su (poolOf a) (slotOf a)
+          → ((find (view su st le) a ≡ noPool) × (e ≡ InvalidStoreId (InvalidSubpool (poolOf a))))
+          ⊎ ((find (view su st le) a ≡ noSlot) × (e ≡ InvalidStoreId (InvalidPacketIdx (slotOf a))))
+      go (no-pool l) w = inl (find-no-pool su st le (poolOf a) (slotOf a) l, refused-same _ _ (w ∙ sym (valid-pool su _ _ l)))
+      go (no-slot l m) w = inr (find-no-slot su st le (poolOf a) (slotOf a) l m, refused-same _ _ (w ∙ sym (valid-slot su _ _ l m)))
+      go (has-slot l m) w = absurd (no-cell e _ (w ∙ sym (valid-yes su _ _ l m)))
 
   named : (c : Cell) → validated su k s ≡ At c → (poolOf a < su .pools) × (slotOf a < slotsAt su (poolOf a)) × (c ≡ cellOf su (poolOf a) (slotOf a))
   named c v = valid-at su (poolOf a) (slotOf a) c (ap₂ (validated su) (sym p) (sym q) ∙ v)
 
+  pub vacant-there : (c : Cell) → validated su k s ≡ At c → getD le (c .row) 0 ≡ storeFree → find (view su st le) a ≡ vacant
+  vacant-there c v e =
+      let i = named c v in
+      find-vacant su st le (poolOf a) (slotOf a) (i .0) (i .1) (ap (λ (x : Cell). getD le (x .row) 0) (sym (i .2)) ∙ e)
+
+  pub held-there : (c : Cell) → validated su k s ≡ At c → (getD le (c .row) 0 ≡ storeFree → ⊥)
+      → find (view su st le) a ≡ held (getD le (c .row) 0) (bytesAt su st (poolOf a) (slotOf a))
+  held-there c v e =
+      let i = named c v in
+      let r : getD le (c .row) 0 ≡ getD le (rowsBefore su (poolOf a) + slotOf a) 0 = ap (λ (x : Cell). getD le (x .row) 0) (i .2) in
+      find-held su st le (poolOf a) (slotOf a) (i .0) (i .1) (λ g. e (r ∙ g)) ∙ ap (λ (n : ℕ). held n (bytesAt su st (poolOf a) (slotOf a))) (sym r)
+
+  pub found-invalid : (e : StoreRefusal) → validated su k s ≡ Refused e → Refused e ≡ spotOf su a (find (view su st le) a)
+  unfolding spotOf
+  found-invalid e v = ⊎-elim (λ h. rw (h .0, h .1)) (λ h. rw (h .0, h .1)) (invalid-cases e v)
+
   pub found-vacant : (n : ℕ) (c : Cell) → n ≡ addressOf k s → validated su k s ≡ At c → getD le (c .row) 0 ≡ storeFree
       → Refused (DataDoesNotExist n) ≡ spotOf su a (find (view su st le) a)
-  found-vacant n c e v f =
-      let i = named c v in
-      ap (λ (m : ℕ). Refused (DataDoesNotExist m)) (e ∙ ap₂ addressOf p q)
-      ∙ spot-vacant su st le a (i .0) (i .1) (ap (λ (x : Cell). getD le (x .row) 0) (sym (i .2)) ∙ f)
+  unfolding spotOf
+  found-vacant n c e v f = rw (vacant-there c v f) (ap (λ (m : ℕ). Refused (DataDoesNotExist m)) (e ∙ ap₂ addressOf p q))
 
   pub found-held : (c : Cell) → validated su k s ≡ At c → (getD le (c .row) 0 ≡ storeFree → ⊥) → At c ≡ spotOf su a (find (view su st le) a)
-  found-held c v f =
-      let i = named c v in
-      ap At (i .2) ∙ spot-held su st le a (i .0) (i .1) (λ g. f (ap (λ (x : Cell). getD le (x .row) 0) (i .2) ∙ g))
+  unfolding spotOf
+  found-held c v f = rw (held-there c v f) (ap At (named c v .2))
 
 pub row-inside : (su : Setup) (le : List ℕ) (k s : ℕ) (c : Cell) → allRows su ≤ length le → validated su k s ≡ At c → c .row < length le
 row-inside su le k s c h v =

@@ -1,2 +1,3 @@
--- What a reading of a stamp says of the bytes.
+-- What a reading of a stamp says of the bytes, and of its time.
 pub mod Fits
+pub mod Seconds

@@ -1,4 +1,4 @@
-// Time stamps (document 01, module 3; CCSDS 301.0-B, day segmented code): a first byte that says the width of the day, the day from 1958, and the millisecond of the day.
+// Time stamps (document 01, module 3; CCSDS 301.0-B, day segmented code): the first byte says the width of the day; day from 1958, millisecond.
 use time::UnixTime;
 ghost use mathlib.Core.Path.{_≡_};
 ghost use Prim.Native.Nat.{_<_, _≤_};

@@ -1,16 +1,20 @@
 -- What is known where room was chosen, or refused.
+-- Assumes nothing.
 use Prim.Native.Nat.{_*_, _+_, _<_, _≤_, suc, zero, ℕ}
 use Rattle.address.specs.Address.{addressOf}
 use Rattle.layout.proofs.Bounds.{bounds}
+use Rattle.layout.proofs.Cases.{SlotCase, has-slot, no-pool, no-slot, slot-case}
 use Rattle.layout.specs.Judge.{Sound}
 use Rattle.layout.specs.Layout.{bytesBefore, rowsBefore, sizeAt, slotsAt}
 use Rattle.layout.specs.Limits.{storeFree}
+use Rattle.lookup.proofs.Packets.{spotPaper}
 use Rattle.lookup.proofs.Within.{Within, within}
 use Rattle.lookup.specs.Refusals.{paper}
-use Rattle.rules.specs.Papers.{Paper, no, refused, says}
-use Rattle.slots.proofs.Find.{find-held, find-no-pool, find-no-slot}
+use Rattle.rules.proofs.Cases.{eq-or-ne}
+use Rattle.rules.specs.Papers.{refused, says}
+use Rattle.slots.proofs.Find.{find-held, find-no-pool, find-no-slot, found-apart}
 use Rattle.slots.specs.Inside.{cellOf, roomOf}
-use Rattle.slots.specs.Pools.{Choice, Found, Pool, Slot, allTaken, choose, findAt, findSlot, free, held, into, lowest, next, noPool, noSlot, over, pick, shiftPool, spillInto, taken, tooLarge, vacant}
+use Rattle.slots.specs.Pools.{Choice, Pool, Slot, allTaken, choose, findAt, findSlot, free, into, lowest, next, over, pick, shiftPool, spillInto, taken, tooLarge, vacant}
 use Rattle.slots.specs.View.{part, poolIn, put, view}
 use Rattle.rules.specs.Lists.{each}
 use Rattle.store.proofs.Edit.{leaves-fill}
@@ -19,12 +23,13 @@ use Rattle.store.specs.Calls.{addIn, place}
 use Rattle.store.specs.Edits.{editAt, fill}
 use Rattle.store.specs.Promise.{Does}
 use Rattle.store.specs.Refusals.{addedPaper}
-use borrow.Author.Tests.{eqb-false, eqb-true, leb-true, ltb-false, ltb-true}
-use lib.Dec.{eqb, leb, ltb}
+use borrow.Author.Tests.{leb-true}
+use lib.Dec.{leb}
 use lib.ListN.{getD, length, set}
 use mathlib.Core.Bool.{Bool, false, true}
 use mathlib.Core.List.{List, [], _∷_}
 use mathlib.Core.Option.{Option, none, some}
+use mathlib.Core.Logic.{⊎-elim}
 use mathlib.Core.Path.{_∙_, _≡_, ap, refl, subst, sym}
 use native.Mathlib.Nat.{not-suc-le-zero}
 use native.Mathlib.Omega.{arith}
@@ -104,32 +109,16 @@ pub record Room (su : Setup) (st le : List ℕ) (n : ℕ) (c : Cell) : Type 0 wh
   pub is-free : getD le (c .row) 0 ≡ storeFree
   pub holds : n ≤ c .size
 
-vacant-is : (x : Found) → x ≡ noPool → x ≡ vacant → ⊥
-vacant-is x p q = let z : _≡_ {A = ℕ} 0 1 = cc in omega arith
-
-vacant-slot : (x : Found) → x ≡ noSlot → x ≡ vacant → ⊥
-vacant-slot x p q = let z : _≡_ {A = ℕ} 0 1 = cc in omega arith
-
-vacant-held : (x : Found) (n : ℕ) (b : List ℕ) → x ≡ held n b → x ≡ vacant → ⊥
-vacant-held x n b p q = let z : _≡_ {A = ℕ} 0 1 = cc in omega arith
-
 module _ (su : Setup) (st le : List ℕ) (k i : ℕ) (q : findAt (view su st le) k i ≡ vacant) where
   vacant-inside : (k < su .pools) × (i < slotsAt su k) × (getD le (rowsBefore su k + i) 0 ≡ storeFree)
-  vacant-inside = in-pool (ltb k (su .pools)) refl
+  vacant-inside = go (slot-case su k i)
     where
-      in-row : (t : Bool) → eqb (getD le (rowsBefore su k + i) 0) storeFree ≡ t → k < su .pools → i < slotsAt su k
-          → (k < su .pools) × (i < slotsAt su k) × (getD le (rowsBefore su k + i) 0 ≡ storeFree)
-      in-row true e l m = (l, m, eqb-true _ _ e)
-      in-row false e l m = absurd (vacant-held _ _ _ (find-held su st le k i l m (eqb-false _ _ e)) q)
-
-      in-slot : (t : Bool) → ltb i (slotsAt su k) ≡ t → k < su .pools
-          → (k < su .pools) × (i < slotsAt su k) × (getD le (rowsBefore su k + i) 0 ≡ storeFree)
-      in-slot true e l = in-row (eqb (getD le (rowsBefore su k + i) 0) storeFree) refl l (ltb-true _ _ e)
-      in-slot false e l = absurd (vacant-slot _ (find-no-slot su st le k i l (ltb-false _ _ e)) q)
-
-      in-pool : (t : Bool) → ltb k (su .pools) ≡ t → (k < su .pools) × (i < slotsAt su k) × (getD le (rowsBefore su k + i) 0 ≡ storeFree)
-      in-pool true e = in-slot (ltb i (slotsAt su k)) refl (ltb-true _ _ e)
-      in-pool false e = absurd (vacant-is _ (find-no-pool su st le k i (ltb-false _ _ e)) q)
+      go : SlotCase su k i → (k < su .pools) × (i < slotsAt su k) × (getD le (rowsBefore su k + i) 0 ≡ storeFree)
+      go (no-pool l) = absurd (found-apart tt (find-no-pool su st le k i l) q)
+      go (no-slot l m) = absurd (found-apart tt (find-no-slot su st le k i l m) q)
+      go (has-slot l m) =
+          ⊎-elim (λ e. (l, m, e)) (λ n. absurd (found-apart tt (find-held su st le k i l m n) q))
+          (eq-or-ne (getD le (rowsBefore su k + i) 0) storeFree)
 
 room-at-cell : (su : Setup) (n : ℕ) (x : Choice) (c : Cell) → roomOf su n x ≡ At c → (k : ℕ) × (i : ℕ) × (x ≡ into k i) × (c ≡ cellOf su k i)
 unfolding roomOf
@@ -157,15 +146,11 @@ module _ (su : Setup) (st le : List ℕ) (fine : Sound su st le) (n : ℕ) where
       subst (Room su st le n) (sym (s .3)) (room-there (s .0) (s .1) (s .2))
 
 -- add
-room-paper : Spot → Paper
-room-paper (Refused e) = paper e
-room-paper (At c) = no 0 []
-
 place-refused : (su : Setup) (ps : List Pool) (d : List ℕ) (x : Choice) (e : StoreRefusal) → roomOf su (length d) x ≡ Refused e
     → place ps d x ≡ refused (paper e)
-unfolding roomOf place room-paper paper
-place-refused su ps d tooLarge e q = ap refused (ap room-paper q)
-place-refused su ps d (allTaken k) e q = ap refused (ap room-paper q)
+unfolding roomOf place spotPaper paper
+place-refused su ps d tooLarge e q = ap refused (ap spotPaper q)
+place-refused su ps d (allTaken k) e q = ap refused (ap spotPaper q)
 place-refused su ps d (into k i) e q = let z : _≡_ {A = ℕ} 0 1 = cc in absurd (omega arith)
 
 module _ (su : Setup) (st le d : List ℕ) where

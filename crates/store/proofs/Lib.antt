@@ -1,4 +1,4 @@
--- The facts by which the store's functions are proved.
+-- A slot written in the lent lists is a slot edited in the view; what the calls promise from that; rows and fresh lists.
 pub mod Slots
 pub mod Wrote
 pub mod Edit

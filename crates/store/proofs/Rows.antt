@@ -3,24 +3,23 @@
 use Prim.Native.Nat.{_+_, _<_, _≤_, ℕ}
 use Rattle.address.specs.Address.{poolOf, slotOf}
 use Rattle.layout.proofs.Bounds.{bounds}
+use Rattle.layout.proofs.Cases.{SlotCase, has-slot, no-pool, no-slot, slot-case}
 use Rattle.layout.proofs.RowOf.{Named, below-named, owner, row-below, row-named, row-no-pool, row-no-slot}
 use Rattle.layout.specs.Judge.{Sound}
-use Rattle.layout.specs.Layout.{allRows, rowOf, rowsBefore, sizeAt, slotsAt}
+use Rattle.layout.specs.Layout.{allRows, rowOf, rowsBefore, sizeAt}
 use Rattle.layout.specs.Limits.{maxSlotSize, storeFree}
 use Rattle.lookup.proofs.Within.{Within, within}
+use Rattle.rules.proofs.Cases.{eq-or-ne}
 use Rattle.slots.proofs.Find.{find-held, find-no-pool, find-no-slot, find-vacant}
 use Rattle.slots.proofs.Lists.{part-length}
 use Rattle.slots.specs.Inside.{cellOf}
 use Rattle.slots.specs.Pools.{Found, find, held, noPool, noSlot, vacant}
 use Rattle.slots.specs.View.{bytesAt, view}
 use Rattle.store.proofs.Slots.{rows-apart}
-use borrow.Author.Tests.{eqb-false, eqb-true, ltb-false, ltb-true}
-use lib.Dec.{eqb, ltb}
 use lib.ListN.{getD, length}
-use mathlib.Core.Bool.{Bool, false, true}
 use mathlib.Core.List.{List}
 use mathlib.Core.Logic.{_⊎_, inl, inr, ⊎-elim}
-use mathlib.Core.Path.{_∙_, _≡_, refl, subst, sym}
+use mathlib.Core.Path.{_∙_, _≡_, subst, sym}
 use native.Mathlib.Omega.{arith}
 use Rattle.layout.specs.declared.Setup.{Setup}
 
@@ -51,32 +50,25 @@ module _ (su : Setup) (st le : List ℕ) (ok : Sound su st le) (a : ℕ) where
   bytes-long c = part-length _ _ st (c .bytes-fit)
 
   says-at : Named su a → RowSays su le a (find (view su st le) a)
-  says-at n = go (eqb (getD le (rowsBefore su (poolOf a) + slotOf a) 0) storeFree) refl
-    where
-      go : (b : Bool) → eqb (getD le (rowsBefore su (poolOf a) + slotOf a) 0) storeFree ≡ b → RowSays su le a (find (view su st le) a)
-      go true t =
-          rw (find-vacant su st le (poolOf a) (slotOf a) (n .pool) (n .slot) (eqb-true _ _ t))
-          (row-below su a n, rw (row-named su a n) (eqb-true _ _ t))
-      go false t =
-          let c = within su (length st) le (bounds ok) (poolOf a) (slotOf a) (n .pool) (n .slot) in
-          let z : length (bytesAt su st (poolOf a) (slotOf a)) ≡ sizeAt su (poolOf a) = bytes-long c in
-          let m : getD le (rowsBefore su (poolOf a) + slotOf a) 0 ≤ sizeAt su (poolOf a)
-          = ⊎-elim (λ e. absurd (eqb-false _ _ t e)) (λ l. l) (c .len-ok) in
-          let y = c .small in
-          rw (find-held su st le (poolOf a) (slotOf a) (n .pool) (n .slot) (eqb-false _ _ t))
-          (row-below su a n, rw (row-named su a n), omega arith, omega arith)
+  says-at n =
+      ⊎-elim
+      (λ (e : getD le (rowsBefore su (poolOf a) + slotOf a) 0 ≡ storeFree).
+      rw (find-vacant su st le (poolOf a) (slotOf a) (n .pool) (n .slot) e) (row-below su a n, rw (row-named su a n) e))
+      (λ (o : getD le (rowsBefore su (poolOf a) + slotOf a) 0 ≡ storeFree → ⊥).
+      let c = within su (length st) le (bounds ok) (poolOf a) (slotOf a) (n .pool) (n .slot) in
+      let z : length (bytesAt su st (poolOf a) (slotOf a)) ≡ sizeAt su (poolOf a) = bytes-long c in
+      let m : getD le (rowsBefore su (poolOf a) + slotOf a) 0 ≤ sizeAt su (poolOf a) = ⊎-elim (λ e. absurd (o e)) (λ l. l) (c .len-ok) in
+      let y = c .small in
+      rw (find-held su st le (poolOf a) (slotOf a) (n .pool) (n .slot) o) (row-below su a n, rw (row-named su a n), omega arith, omega arith))
+      (eq-or-ne (getD le (rowsBefore su (poolOf a) + slotOf a) 0) storeFree)
 
   pub row-says : RowSays su le a (find (view su st le) a)
-  row-says = go (ltb (poolOf a) (su .pools)) refl
+  row-says = go (slot-case su (poolOf a) (slotOf a))
     where
-      in-pool : (b : Bool) → ltb (slotOf a) (slotsAt su (poolOf a)) ≡ b → poolOf a < su .pools → RowSays su le a (find (view su st le) a)
-      in-pool true t l = says-at (record { pool = l; slot = ltb-true _ _ t })
-      in-pool false t l =
-          rw (find-no-slot su st le (poolOf a) (slotOf a) l (ltb-false _ _ t)) (row-no-slot su a l (ltb-false _ _ t))
-
-      go : (b : Bool) → ltb (poolOf a) (su .pools) ≡ b → RowSays su le a (find (view su st le) a)
-      go true t = in-pool (ltb (slotOf a) (slotsAt su (poolOf a))) refl (ltb-true _ _ t)
-      go false t = rw (find-no-pool su st le (poolOf a) (slotOf a) (ltb-false _ _ t)) (row-no-pool su a (ltb-false _ _ t))
+      go : SlotCase su (poolOf a) (slotOf a) → RowSays su le a (find (view su st le) a)
+      go (no-pool l) = rw (find-no-pool su st le (poolOf a) (slotOf a) l) (row-no-pool su a l)
+      go (no-slot l m) = rw (find-no-slot su st le (poolOf a) (slotOf a) l m) (row-no-slot su a l m)
+      go (has-slot l m) = says-at (record { pool = l; slot = m })
 
 pub row-plain : (su : Setup) (st le : List ℕ) → Sound su st le → (r : ℕ) → r < allRows su
     → (getD le r 0 ≡ storeFree) ⊎ (getD le r 0 ≤ maxSlotSize)

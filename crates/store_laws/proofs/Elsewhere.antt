@@ -1,8 +1,10 @@
 -- One slot after an edit of one slot: the same slot where it is another, and else what the edit makes of it.
+-- Assumes nothing.
 use Prim.Native.Nat.{suc, zero, ℕ}
 use Rattle.rules.specs.Papers.{Paper, after, no, says}
 use Rattle.store.proofs.Chosen.{Open}
-use Rattle.lookup.proofs.Packets.{held-vacant}
+use Rattle.slots.proofs.Find.{found-apart}
+use Rattle.store.proofs.Slots.{Other}
 use Rattle.address.specs.Address.{addressOf}
 use Rattle.store.specs.Calls.{place}
 use Rattle.slots.specs.Pools.{Choice, Pool, Slot, allTaken, findAt, findSlot, free, into, seen, taken, tooLarge, vacant}
@@ -22,7 +24,7 @@ nth-else f (x ∷ xs) zero (suc j) o = refl
 nth-else f (x ∷ xs) (suc i) zero o = refl
 nth-else f (x ∷ xs) (suc i) (suc j) o = nth-else f xs i j (λ e. o (ap suc e))
 
-pub slot-else : (f : Slot → Slot) (ps : List Pool) (k i m j : ℕ) → ((k ≡ m) × (i ≡ j) → ⊥) → theSlot (editAt f ps m j) k i ≡ theSlot ps k i
+pub slot-else : (f : Slot → Slot) (ps : List Pool) (k i m j : ℕ) → Other k i m j → theSlot (editAt f ps m j) k i ≡ theSlot ps k i
 unfolding theSlot editAt
 slot-else f [] k i m j o = refl
 slot-else f (p ∷ ps) zero i zero j o = nth-else f (p .slots) i j (λ e. o (refl, e))
@@ -69,8 +71,8 @@ slot-vacant (p ∷ ps) zero i q = nth-vacant (p .slots) i q
 slot-vacant (p ∷ ps) (suc k) i q = slot-vacant ps k i q
 
 -- a taken slot is not the one that an addition chooses
-pub not-chosen : (ps : List Pool) (k i m j n : ℕ) (b : List ℕ) → theSlot ps k i ≡ some (taken n b) → findAt ps m j ≡ vacant → (k ≡ m) × (i ≡ j) → ⊥
-not-chosen ps k i m j n b h v e = held-vacant (findAt ps k i) n b (rw (e .0, e .1) v) (slot-seen ps k i (taken n b) h)
+pub not-chosen : (ps : List Pool) (k i m j n : ℕ) (b : List ℕ) → theSlot ps k i ≡ some (taken n b) → findAt ps m j ≡ vacant → Other k i m j
+not-chosen ps k i m j n b h v e = found-apart {z = vacant} tt (slot-seen ps k i (taken n b) h) (rw (e .0, e .1) v)
 
 pub placed-keeps : (ps : List Pool) (d : List ℕ) (x : Choice) → Open ps (length d) x → (k i n : ℕ) (b : List ℕ) → theSlot ps k i ≡ some (taken n b)
     → theSlot (after (place ps d x) ps (λ qs. qs)) k i ≡ some (taken n b)

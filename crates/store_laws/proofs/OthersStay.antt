@@ -3,6 +3,7 @@
 use Prim.Native.Nat.{ℕ}
 use Rattle.rules.specs.Papers.{Paper, after, done, no}
 use Rattle.store.proofs.Chosen.{choose-open}
+use Rattle.store.proofs.Slots.{Other}
 use Rattle.address.specs.Address.{poolOf, slotOf}
 use Rattle.store.specs.Calls.{addIn, deleteIn, place}
 use Rattle.lookup.specs.Calls.{ifHeld, ifNamed, judging}
@@ -37,7 +38,7 @@ delete-others ps a k i o = go (find ps a)
     go (held n b) = slot-else wipe ps k i (poolOf a) (slotOf a) o
 
 -- an addition touches the slot that it chooses alone; a slot that was taken stays in any case
-pub add-others : (spill : Bool) (ps : List Pool) (d : List ℕ) (m j : ℕ) → choose spill ps (length d) ≡ into m j → (k i : ℕ) → ((k ≡ m) × (i ≡ j) → ⊥)
+pub add-others : (spill : Bool) (ps : List Pool) (d : List ℕ) (m j : ℕ) → choose spill ps (length d) ≡ into m j → (k i : ℕ) → Other k i m j
     → theSlot (after (addIn spill ps d) ps (λ qs. qs)) k i ≡ theSlot ps k i
 unfolding addIn place after
 add-others spill ps d m j q k i o = rw q (slot-else (fill d) ps k i m j o)

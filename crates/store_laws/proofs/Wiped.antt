@@ -3,6 +3,7 @@
 use Prim.Native.Nat.{suc, zero, ℕ}
 use Rattle.rules.specs.Papers.{after, done}
 use Rattle.address.specs.Address.{poolOf, slotOf}
+use Rattle.store.proofs.Slots.{Other}
 use Rattle.store.specs.Calls.{deleteIn}
 use Rattle.lookup.specs.Calls.{ifHeld, ifNamed}
 use Rattle.slots.specs.Pools.{Found, Pool, Slot, find, findAt, findSlot, free, held, noPool, noSlot, taken, vacant}
@@ -18,17 +19,17 @@ Missing vacant = Unit {0}
 Missing (held n b) = ⊥
 
 -- what is found elsewhere, after any edit of one slot
-slot-else : (f : Slot → Slot) (xs : List Slot) (i j : ℕ) → (i ≡ j → ⊥) → findSlot (editSlot f xs j) i ≡ findSlot xs i
-slot-else f [] i j o = refl
-slot-else f (x ∷ xs) zero zero o = absurd (o refl)
-slot-else f (x ∷ xs) zero (suc j) o = refl
-slot-else f (x ∷ xs) (suc i) zero o = refl
-slot-else f (x ∷ xs) (suc i) (suc j) o = slot-else f xs i j (λ e. o (ap suc e))
+find-slot-else : (f : Slot → Slot) (xs : List Slot) (i j : ℕ) → (i ≡ j → ⊥) → findSlot (editSlot f xs j) i ≡ findSlot xs i
+find-slot-else f [] i j o = refl
+find-slot-else f (x ∷ xs) zero zero o = absurd (o refl)
+find-slot-else f (x ∷ xs) zero (suc j) o = refl
+find-slot-else f (x ∷ xs) (suc i) zero o = refl
+find-slot-else f (x ∷ xs) (suc i) (suc j) o = find-slot-else f xs i j (λ e. o (ap suc e))
 
-pub find-else : (f : Slot → Slot) (ps : List Pool) (k i m j : ℕ) → ((m ≡ k) × (j ≡ i) → ⊥) → findAt (editAt f ps m j) k i ≡ findAt ps k i
+pub find-else : (f : Slot → Slot) (ps : List Pool) (k i m j : ℕ) → Other m j k i → findAt (editAt f ps m j) k i ≡ findAt ps k i
 unfolding findAt editAt
 find-else f [] k i m j o = refl
-find-else f (p ∷ ps) zero i zero j o = slot-else f (p .slots) i j (λ e. o (refl, sym e))
+find-else f (p ∷ ps) zero i zero j o = find-slot-else f (p .slots) i j (λ e. o (refl, sym e))
 find-else f (p ∷ ps) zero i (suc m) j o = refl
 find-else f (p ∷ ps) (suc k) i zero j o = refl
 find-else f (p ∷ ps) (suc k) i (suc m) j o = find-else f ps k i m j (λ e. o (ap suc (e .0), e .1))

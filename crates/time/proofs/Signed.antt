@@ -1,11 +1,12 @@
 -- The signed seconds, and their unsigned count from -2^42.
 -- Assumes nothing.
 use Prim.Native.Nat.{_-_, _<_, _^_, _≤_, suc, ℕ}
+use Rattle.time.proofs.Size.{mag-sub}
 use Rattle.time.specs.Time.{InRange, biased, far, momentOf, secsInRange, timeOf}
 use borrow.Author.Tests.{le-leb, le-ltb, lt-leb, lt-ltb, ltb-false, ltb-true}
-use lib.Dec.{T, leb→le, ltb, ltb→lt}
+use lib.Dec.{T, leb→le, ltb→lt}
 use lib.IntN.{+ℤ-negℤ-cancel, _+ℤ_, _-ℤ_, negsuc, pos, ℤ}
-use lib.Signed.{ltZ, mag}
+use lib.Signed.{ltZ}
 use mathlib.Core.Bool.{Bool, cond, false, true}
 use mathlib.Core.Path.{_∙_, _≡_, ap, refl, subst, sym}
 use mir.Facts.{toZ-ofZ}
@@ -45,11 +46,7 @@ sum-back z t = toZ-ofZ (sum-fits z t) ∙ sum-is z t
 
 -- the way back
 pub back-fits : (k : ℕ) → k ≤ 8796093022208 → SFits w64 (pos k -ℤ pos far)
-back-fits k h = record { sfits = go (ltb k far) }
-  where
-    go : (b : Bool) → lib.Signed.mag (cond b (negsuc (far - suc k)) (pos (k - far))) < 2 ^ 63
-    go true = omega arith
-    go false = omega arith
+back-fits k h = record { sfits = omega (arith, mag-sub k far) }
 
 -- the two tests of the range
 pub too-low : (z : ℤ) → SFits w64 z → ltZ (toZ w64 (ofZ w64 z)) (negsuc 4398046511103) ≡ true → secsInRange z ≡ false

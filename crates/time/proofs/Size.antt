@@ -1,7 +1,7 @@
 -- How large a signed result can be.
 -- Assumes nothing.
 use Prim.Native.Nat.{_*_, _+_, _-_, _<_, _≤_, suc, zero, ℕ}
-use Rattle.time.specs.Time.{secsInRange}
+use Rattle.time.specs.Time.{far, secsInRange}
 use lib.Dec.{T, le→leb, ltb, lt→ltb}
 use lib.IntN.{_*ℤ_, _+ℤ_, negsuc, negℤ, pos, subℕ, ℤ}
 use lib.Signed.{mag}
@@ -30,6 +30,6 @@ pub mag-mul : (y : ℤ) (n : ℕ) → mag (y *ℤ pos n) ≤ suc (mag y) * n
 mag-mul (pos a) n = mul-le-mul-right n (le-suc a)
 mag-mul (negsuc a) n = mag-neg (suc a * n)
 
-pub small-ok : (z : ℤ) → mag z < 4398046511104 → T (secsInRange z)
-small-ok (pos n) h = le→leb n 4398046511104 (le-of-lt h)
-small-ok (negsuc n) h = lt→ltb n 4398046511104 h
+pub small-ok : (z : ℤ) → mag z < far → T (secsInRange z)
+small-ok (pos n) h = le→leb n far (le-of-lt h)
+small-ok (negsuc n) h = lt→ltb n far h

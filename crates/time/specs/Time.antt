@@ -46,13 +46,14 @@ earliest clock margin = instant clock + span margin
 abbrev pub inTimeMargin : UnixTime → Margin → UnixTime → Bool
 inTimeMargin clock margin release = ltb (instant release) (earliest clock margin)
 
--- a moment, and the moment of a number
+-- a moment as one number, and the moment of a number
 abbrev pub instantOf : Moment → ℕ
 instantOf m = m .secs * giga + m .nanos
 
 abbrev pub momentAt : ℕ → Moment
 momentAt n = record { secs = n / giga; nanos = n % giga }
 
+-- the moment of a time, and the time of a moment
 abbrev pub momentOf : UnixTime → Moment
 momentOf t = record { secs = biased (t .secs); nanos = t .nanos }
 

@@ -1,6 +1,8 @@
--- One year and one month more or less: what the loops over the calendar go by. Assumes nothing.
-use Prim.Native.Nat.{_+_, _-_, _<_, _≤_, suc, ℕ}
-use Rattle.utc.specs.Calendar.{DateOf, Months, Years, dayNumber, leap, monthDays, monthsDays, yearDays, yearsDays}
+-- One year and one month more or less: what the loops over the calendar go by.
+-- Assumes nothing.
+use Prim.Native.Nat.{_+_, _<_, _≤_, ℕ}
+use Rattle.utc.specs.Calendar.{DateOf, dayNumber, leap, monthDays, monthsDays, yearDays, yearsDays}
+use Rattle.utc.specs.Inside.{Months, Years}
 use Rattle.utc.specs.declared.Split.{Split}
 use lib.Dec.{eqb}
 use mathlib.Core.Bool.{Bool, cond, false, true}
@@ -18,17 +20,13 @@ some-days y = go (leap y)
     go true = omega arith
     go false = omega arith
 
-pub year-more : (n left next day : ℕ) → yearsDays n + left ≡ day → next ≡ yearDays (1970 + n) → next ≤ left
-    → yearsDays (n + 1) + (left - next) ≡ day
-year-more n left next day e f h = rw add-one (unfold yearsDays in omega arith)
+pub years-more : (n : ℕ) → yearsDays (n + 1) ≡ yearsDays n + yearDays (1970 + n)
+unfolding yearsDays
+years-more n = rw add-one
 
-one-month : (y n : ℕ) → monthsDays y (suc n) ≡ monthsDays y n + monthDays y (suc n)
-one-month y n = unfold monthsDays in refl
-
-pub month-more : (y n left next day : ℕ) → monthsDays y n + left ≡ day → next ≡ monthDays y (n + 1) → next ≤ left
-    → monthsDays y (n + 1) + (left - next) ≡ day
-month-more y n left next day e f h =
-    let g : next ≡ monthDays y (suc n) = rw add-one at f in rw add-one (omega (arith, one-month y n))
+pub months-more : (y n : ℕ) → monthsDays y (n + 1) ≡ monthsDays y n + monthDays y (n + 1)
+unfolding monthsDays
+months-more y n = rw add-one
 
 -- twelve months are the year
 twelve : (y : ℕ) → monthsDays y 12 ≡ yearDays y
@@ -41,8 +39,7 @@ twelve y = go (leap y)
 
 -- what is left after eleven months is of December
 pub december : (y n left day : ℕ) → n ≡ 11 → monthsDays y n + left ≡ day → day < yearDays y → left < monthDays y (n + 1)
-december y n left day e f h =
-    rw e (omega (arith, twelve y, one-month y 11, rw e at f))
+december y n left day e f h = rw e (omega (arith, twelve y, months-more y 11, rw e at f))
 
 -- whole years, whole months and the days left are a date
 pub dated : (n : ℕ) (y m : Split) → Years n y → Months (1970 + y .whole) (y .left) m
@@ -59,14 +56,6 @@ dated n y m a b =
           };
       same = unfold dayNumber in rw (add-sub-cancel-left, add-sub-cancel-left, add-sub-cancel-left) (omega (arith, a .sum, b .sum));
     }
-
--- one year and one month more in a sum
-pub years-more : (n sum next : ℕ) → sum ≡ yearsDays n → next ≡ yearDays (1970 + n) → sum + next ≡ yearsDays (n + 1)
-years-more n sum next e f = rw add-one (unfold yearsDays in omega arith)
-
-pub months-more : (y n sum next : ℕ) → sum ≡ monthsDays y n → next ≡ monthDays y (n + 1) → sum + next ≡ monthsDays y (n + 1)
-months-more y n sum next e f =
-    let g : next ≡ monthDays y (suc n) = rw add-one at f in rw add-one (omega (arith, one-month y n))
 
 -- no year and no month is longer than these
 pub year-most : (y : ℕ) → yearDays y ≤ 366

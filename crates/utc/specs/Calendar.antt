@@ -1,10 +1,9 @@
 -- The Gregorian calendar from 1970 on: how long years and months are, and how many days lie before a date.
-use Prim.Native.Nat.{_%_, _+_, _-_, _<_, _≤_, suc, zero, ℕ}
+use Prim.Native.Nat.{_%_, _+_, _-_, _≤_, suc, zero, ℕ}
 use lib.Dec.{eqb}
 use mathlib.Core.Bool.{Bool, cond, false, true}
 use mathlib.Core.Path.{_≡_}
 use Rattle.utc.specs.declared.Date.{Date}
-use Rattle.utc.specs.declared.Split.{Split}
 
 -- every fourth year, no hundredth, but every four hundredth
 unfoldable pub leap : ℕ → Bool
@@ -45,18 +44,6 @@ pub record Proper (d : Date) : Type 0 where
 pub record DateOf (day : ℕ) (d : Date) : Type 0 where
   pub proper : Proper d
   pub same : dayNumber d ≡ day
-
--- whole years from 1970 on, and the days left of the next
-pub record Years (day : ℕ) (s : Split) : Type 0 where
-  pub sum : yearsDays (s .whole) + s .left ≡ day
-  pub less : s .left < yearDays (1970 + s .whole)
-  pub few : s .whole ≤ day
-
--- whole months of a year, and the days left of the next
-pub record Months (y day : ℕ) (s : Split) : Type 0 where
-  pub sum : monthsDays y (s .whole) + s .left ≡ day
-  pub less : s .left < monthDays y (s .whole + 1)
-  pub few : s .whole < 12
 
 -- what the day of a date promises: no more than of a year of four digits, and the date's number if there is such a date
 pub record DayOf (d : Date) (r : ℕ) : Type 0 where

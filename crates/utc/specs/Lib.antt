@@ -1,2 +1,3 @@
 -- The calendar.
 pub mod Calendar
+pub mod Inside

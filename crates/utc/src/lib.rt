@@ -1,7 +1,8 @@
 // Dates in UTC: the date of a day counted from 1 January 1970, and the day of a date.
 ghost use mathlib.Core.Path.{_≡_};
 ghost use Prim.Native.Nat.{_*_, _<_, _≤_};
-ghost use Rattle.utc.specs.Calendar.{DateOf, DayOf, Months, Years, leap as isLeap, monthDays, monthsDays, yearDays, yearsDays};
+ghost use Rattle.utc.specs.Calendar.{DateOf, DayOf, leap as isLeap, monthDays, monthsDays, yearDays, yearsDays};
+ghost use Rattle.utc.specs.Inside.{Months, Years};
 
 pub struct Date {
     pub year: u64,
@@ -143,7 +144,8 @@ fn months_before(y: u64, n: u64) -> u64
     sum
 }
 
-// The day of a date; 0 for a year not from 1970 to 9999, a month not from 1 to 12 or a day not from 1 to 31; of another date that the calendar has not, some number.
+// The day of a date; 0 for a year not from 1970 to 9999, a month not from 1 to 12 or a day not from 1 to 31.
+// Of another date that the calendar has not, some number.
 pub fn day_of(d: Date) -> u64
     ensures { λ r. ⌜ DayOf d r ⌝ }
 {

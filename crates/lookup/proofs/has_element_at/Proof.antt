@@ -1,7 +1,10 @@
 -- `lookup::has_element_at` meets its contract.
+-- Assumes nothing.
+use Prim.Native.Nat.{_<_}
 use Rattle.layout.proofs.Bounds.{bounds}
 use Rattle.lookup.proofs.Asks.{has-held, has-refused, has-vacant}
 use Rattle.slots.proofs.Place.{row-inside}
+use lib.ListN.{length}
 use mathlib.Core.Path.{_∙_, sym}
 use native.Mathlib.Omega.{arith}
 use borrow.Author.Needs.{needs}
@@ -11,18 +14,17 @@ use Rattle.lookup.proofs.has_element_at.Tie as tie
 validate-requires : tie.Need-validate-requires
 validate-requires c κs = bounds (c .before .before .before .pre) .few-pools
 
+-- the row of the slot lies in the table
+inside : (c : tie.After-spot2) → c .spot2 .given .0 .0 .row < length (c .before .before .before .before .before .before .args .lens .now)
+inside c =
+    let s = c .before .before .before .before .before .before in
+    row-inside _ (s .args .lens .now) _ _ _ (bounds (s .pre) .rows-fit) (sym (c .before .before .validate .ensures) ∙ c .spot2 .given .1)
+
 mul-if1 : tie.Need-mul-if1
-mul-if1 c =
-    let h = row-inside _ (c .before .before .before .before .before .before .before .args .lens .now) _ _ _
-    (bounds (c .before .before .before .before .before .before .before .pre) .rows-fit)
-    (sym (c .before .before .before .validate .ensures) ∙ c .before .spot2 .given .1) in
-    omega (arith, h)
+mul-if1 c = omega (arith, inside (c .before))
 
 shared-slice-read-if1 : tie.Need-shared-slice-read-if1
-shared-slice-read-if1 c =
-    row-inside _ (c .before .before .before .before .before .before .before .before .args .lens .now) _ _ _
-    (bounds (c .before .before .before .before .before .before .before .before .pre) .rows-fit)
-    (sym (c .before .before .before .before .validate .ensures) ∙ c .before .before .spot2 .given .1)
+shared-slice-read-if1 c = inside (c .before .before)
 
 returns : tie.Need-returns
 returns c =

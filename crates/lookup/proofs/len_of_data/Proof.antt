@@ -1,7 +1,10 @@
 -- `lookup::len_of_data` meets its contract.
+-- Assumes nothing.
+use Prim.Native.Nat.{_<_}
 use Rattle.layout.proofs.Bounds.{bounds}
 use Rattle.lookup.proofs.Asks.{len-held, len-refused, len-vacant}
 use Rattle.slots.proofs.Place.{row-inside}
+use lib.ListN.{length}
 use mathlib.Core.Path.{_∙_, sym}
 use native.Mathlib.Omega.{arith}
 use borrow.Author.Needs.{needs}
@@ -11,18 +14,17 @@ use Rattle.lookup.proofs.len_of_data.Tie as tie
 validate-requires : tie.Need-validate-requires
 validate-requires c κs = bounds (c .before .before .before .pre) .few-pools
 
+-- the row of the slot lies in the table
+inside : (c : tie.After-spot2) → c .spot2 .given .0 .0 .row < length (c .before .before .before .before .before .before .args .lens .now)
+inside c =
+    let s = c .before .before .before .before .before .before in
+    row-inside _ (s .args .lens .now) _ _ _ (bounds (s .pre) .rows-fit) (sym (c .before .before .validate .ensures) ∙ c .spot2 .given .1)
+
 mul-w : tie.Need-mul-w
-mul-w c =
-    let h = row-inside _ (c .before .before .before .before .before .before .before .args .lens .now) _ _ _
-    (bounds (c .before .before .before .before .before .before .before .pre) .rows-fit)
-    (sym (c .before .before .before .validate .ensures) ∙ c .before .spot2 .given .1) in
-    omega (arith, h)
+mul-w c = omega (arith, inside (c .before))
 
 shared-slice-read-w : tie.Need-shared-slice-read-w
-shared-slice-read-w c =
-    row-inside _ (c .before .before .before .before .before .before .before .before .args .lens .now) _ _ _
-    (bounds (c .before .before .before .before .before .before .before .before .pre) .rows-fit)
-    (sym (c .before .before .before .before .validate .ensures) ∙ c .before .before .spot2 .given .1)
+shared-slice-read-w c = inside (c .before .before)
 
 returns : tie.Need-returns
 returns c =

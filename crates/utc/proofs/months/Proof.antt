@@ -1,5 +1,5 @@
 -- `utc::months` meets its contract.
-use Rattle.utc.proofs.Steps.{december, month-more}
+use Rattle.utc.proofs.Steps.{december, months-more}
 use mathlib.Core.Path.{_≡_}
 use Rattle.utc.specs.Calendar.{monthsDays}
 use Prim.Native.Nat.{_+_, _-_, _≤_}
@@ -21,7 +21,9 @@ returns : tie.Need-returns Inv-loop μ-loop
 returns c = record { sum = c .before .before .before .loop .inv .0; less = omega arith; few = omega arith }
 
 loop-again : tie.Need-loop-again Inv-loop μ-loop
-loop-again c = (month-more _ _ _ _ _ (c .before .before .before .loop .inv .0) (c .before .month-days .ensures) (omega arith), omega arith)
+loop-again c =
+    let l = c .before .before .before in
+    (omega (arith, months-more (l .before .args .y) (l .loop .n)), omega arith)
 
 returns-2 : tie.Need-returns-2 Inv-loop μ-loop
 returns-2 c =

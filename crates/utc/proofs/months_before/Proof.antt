@@ -23,7 +23,7 @@ add-sum c = omega (arith, month-most (c .before .before .before .args .y) (c .be
 loop-again : tie.Need-loop-again Inv-loop μ-loop
 loop-again c = (
   omega arith,
-  months-more _ _ _ _ (c .before .before .loop .inv .1) (c .month-days .ensures),
+  omega (arith, months-more (c .before .before .before .args .y) (c .before .before .loop .i)),
   omega (arith, month-most (c .before .before .before .args .y) (c .before .before .loop .i + 1)),
 )
 

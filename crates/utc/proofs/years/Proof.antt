@@ -1,5 +1,5 @@
 -- `utc::years` meets its contract.
-use Rattle.utc.proofs.Steps.{some-days, year-more}
+use Rattle.utc.proofs.Steps.{some-days, years-more}
 use mathlib.Core.Path.{_≡_}
 use Rattle.utc.specs.Calendar.{yearDays, yearsDays}
 use Prim.Native.Nat.{_+_, _≤_}
@@ -22,7 +22,7 @@ loop-less c = omega (arith, some-days (1970 + c .before .before .loop .n))
 
 loop-again : tie.Need-loop-again Inv-loop μ-loop
 loop-again c = (
-  year-more _ _ _ _ (c .before .before .loop .inv .0) (c .before .before .loop .inv .2) (omega arith),
+  omega (arith, years-more (c .before .before .loop .n)),
   omega (arith, some-days (1970 + c .before .before .loop .n)),
   c .year-days2 .ensures,
 )

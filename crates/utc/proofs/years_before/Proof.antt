@@ -23,7 +23,7 @@ add-sum c = omega (arith, year-most (1970 + c .before .before .loop .i))
 loop-again : tie.Need-loop-again Inv-loop μ-loop
 loop-again c = (
   omega arith,
-  years-more _ _ _ (c .before .before .loop .inv .1) (c .year-days .ensures),
+  omega (arith, years-more (c .before .before .loop .i)),
   omega (arith, year-most (1970 + c .before .before .loop .i)),
 )
 

@@ -1,6 +1,6 @@
 -- `layout::tests::pool_lens_ok` meets its contract.
 use Prim.Native.Nat.{_-_, _≤_}
-use Rattle.layout.proofs.Faults.{Counted, count-first, count-last, count-next, fault-few}
+use Rattle.layout.proofs.Faults.{Counted, count-first, count-last, count-next}
 use Rattle.layout.specs.Judge.{rowOk}
 use native.Mathlib.Omega.{arith}
 use borrow.Author.Needs.{needs}
@@ -17,16 +17,7 @@ loop-holds : tie.Need-loop-holds Inv-loop μ-loop
 loop-holds c = (omega arith, count-first _ _)
 
 add-faults : tie.Need-add-faults Inv-loop μ-loop
-add-faults c =
-    omega (
-      arith,
-      c .before .before .before .loop .inv .1 .few,
-      c .over .ensures,
-      fault-few
-          (rowOk (c .before .before .before .before .before .args .lens .now)
-          (c .before .before .before .before .before .args .base) (c .before .before .before .before .before .args .size)
-          (c .before .before .before .loop .s)),
-    )
+add-faults c = omega (arith, c .before .before .before .loop .inv .1 .few, c .over .ensures .one)
 
 loop-again : tie.Need-loop-again Inv-loop μ-loop
 loop-again c = (

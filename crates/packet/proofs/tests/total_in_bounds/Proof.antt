@@ -2,11 +2,11 @@
 -- Assumes nothing.
 use Prim.Native.Nat.{_<_, _≤_, ℕ}
 use Rattle.packet.specs.Packet.{totalInBounds, totalOf}
-use Rattle.rules.proofs.All.{and-true}
 use Rattle.rules.specs.Tests.{allOf}
 use borrow.Author.Tests.{le-leb, lt-leb}
 use lib.Dec.{leb}
 use lib.ListN.{length}
+use mathlib.Core.Bool.{and-true}
 use mathlib.Core.List.{List}
 use mathlib.Core.Path.{_≡_, sym}
 use native.Mathlib.Omega.{arith}

@@ -1,23 +1,25 @@
 -- `slots::search::locate` meets its contract.
+-- Assumes nothing.
+use Prim.Native.Nat.{_<_}
 use Rattle.slots.proofs.Place.{found-held, found-invalid, found-vacant, row-inside}
+use lib.ListN.{length}
 use mathlib.Core.Path.{_∙_, sym}
 use native.Mathlib.Omega.{arith}
 use borrow.Author.Needs.{needs}
 use Rattle.slots.proofs.search.locate.Statement.{statement}
 use Rattle.slots.proofs.search.locate.Tie as tie
 
+-- the row of the slot lies in the table
+inside : (c : tie.After-spot2) → c .spot2 .given .0 .0 .row < length (c .before .before .before .before .before .args .lens .now)
+inside c =
+    let s = c .before .before .before .before .before in
+    row-inside _ (s .args .lens .now) _ _ _ (s .pre .1) (sym (c .before .before .validate .ensures) ∙ c .spot2 .given .1)
+
 mul-if1 : tie.Need-mul-if1
-mul-if1 c =
-    let h = row-inside _ (c .before .before .before .before .before .before .args .lens .now) _ _ _
-    (c .before .before .before .before .before .before .pre .1)
-    (sym (c .before .before .before .validate .ensures) ∙ c .before .spot2 .given .1) in
-    omega (arith, h)
+mul-if1 c = omega (arith, inside (c .before))
 
 shared-slice-read-if1 : tie.Need-shared-slice-read-if1
-shared-slice-read-if1 c =
-    row-inside _ (c .before .before .before .before .before .before .before .args .lens .now) _ _ _
-    (c .before .before .before .before .before .before .before .pre .1)
-    (sym (c .before .before .before .before .validate .ensures) ∙ c .before .before .spot2 .given .1)
+shared-slice-read-if1 c = inside (c .before .before)
 
 returns : tie.Need-returns
 returns c =
