@@ -7,19 +7,17 @@ use mathlib.Core.List.{List, [], _∷_}
 use mathlib.Core.Path.{_≡_, _∙_, ap, refl, subst, sym}
 use native.Mathlib.Omega.{arith}
 use Rattle.record.specs.declared.Record.{Record}
-use Rattle.rules.specs.Papers.{Outcome, Paper, after, done, no, refused, says}
+use Rattle.rules.specs.Papers.{Outcome, after, done, no, says}
 use Rattle.rules.specs.Tests.{unless}
 use Rattle.store.proofs.Laid.{leaves-same}
-use Rattle.lookup.proofs.Numbers.{not-done}
 use Rattle.store.specs.Calls.{deleteIn}
-use Rattle.slots.specs.Pools.{Pool}
 use Rattle.store.specs.Refusals.{deletedPaper}
 use Rattle.slots.specs.View.{Leaves, view}
 use Rattle.store.specs.declared.Deleted.{Deleted}
 use Rattle.store.specs.declared.Deleted.the-variants as D
-use Rattle.store_laws.proofs.Numbers.{delete-numbered}
+use Rattle.store_laws.proofs.Numbers.{by-deleted}
 use Rattle.rows.proofs.Rows.{getD-unpack, length-unpack, relaid-same}
-use Rattle.table_edit.proofs.Stays.{length-without}
+use Rattle.table_edit.proofs.Stays.{remove-number}
 use Rattle.table_edit.specs.Edits.{afterRemove, without}
 use Rattle.rows.specs.Entries.{Entry, row, unpack, width}
 use Rattle.selection.specs.Match.{none, victim}
@@ -33,13 +31,13 @@ use Rattle.schedule.proofs.Promises.{does-done, record-same}
 use Rattle.schedule.proofs.Facts.{Facts}
 
 -- what the store's answer makes of the call's
-freed-by : (t : State) (o : Outcome (List Pool)) (d : Deleted) → deletedPaper d ≡ says o → ((p : Paper) → o ≡ refused p → p .number ≡ 0 → ⊥)
-    → freed t o ≡ done (freedPaper (freedOf d) .values) (withPools (after o (t .pools) (λ ps. ps)) t)
-unfolding freed freedPaper deletedPaper says after
-freed-by t (refused p) D.Done q h = absurd (h p refl (sym (ap (λ (x : Paper). x .number) q)))
-freed-by t (refused p) (D.Refused e) q h = ap (λ (x : Paper). done (1 ∷ 0 ∷ x .number ∷ x .values) t) (sym q)
-freed-by t (done vs ps) D.Done q h = refl
-freed-by t (done vs ps) (D.Refused e) q h = absurd (not-done e vs q)
+freed-by : (t : State) (a : ℕ) (d : Deleted) → deletedPaper d ≡ says (deleteIn (t .pools) a)
+    → freed t (deleteIn (t .pools) a)
+    ≡ done (freedPaper (freedOf d) .values) (withPools (after (deleteIn (t .pools) a) (t .pools) (λ ps. ps)) t)
+unfolding freed freedPaper after
+freed-by t a d q =
+    by-deleted (λ o d. freed t o ≡ done (freedPaper (freedOf d) .values) (withPools (after o (t .pools) (λ ps. ps)) t)) (t .pools) a d q
+    (λ e. refl) (λ vs ps. refl)
 
 freed-number : (d : Deleted) → no 0 (freedPaper (freedOf d) .values) ≡ freedPaper (freedOf d)
 unfolding freedPaper
@@ -83,9 +81,7 @@ module _ (su : Setup) (r : Record) (st le ro : List ℕ) (f : Facts su r st le r
 
     fewer-record : recordOf fewer ≡ withCount (r .count - 1) r
     unfolding fewer stateOf
-    fewer-record =
-        ap (λ (n : ℕ). withCount n r)
-        (length-without k 1 (unpack (r .count) ro) (omega (arith, length-unpack (r .count) ro)) ∙ ap (λ (n : ℕ). n - 1) (length-unpack (r .count) ro))
+    fewer-record = ap (λ (n : ℕ). withCount n r) (remove-number ro (r .count) k 1 (omega arith))
 
     match-is : (found : ℕ → State → Outcome State) → takeIn id found (stateOf su r st le ro) ≡ found (row ro k .addr) fewer
     unfolding fewer stateOf
@@ -113,4 +109,4 @@ module _ (su : Setup) (r : Record) (st le ro : List ℕ) (f : Facts su r st le r
         let o = deleteIn (view (su .store) st le) a in
         rw (p ∙ sym fewer-record, ← (freed-number d))
         (does-done su r st le ro (deleteByIdIn id) _ (withPools (after o (view (su .store) st le) (λ ps. ps)) fewer) st′ le′ ro′
-        (match-is _ ∙ rw (← e) (freed-by fewer o d w (delete-numbered (view (su .store) st le) a))) v g)
+        (match-is _ ∙ rw (← e) (freed-by fewer a d w)) v g)

@@ -11,12 +11,13 @@ use Rattle.table_edit.specs.Edits.{without}
 use Rattle.selection.specs.Match.{none, victim}
 use Rattle.schedule.specs.State.{State, withEntries, withPools}
 
--- no match answers 0. One form answers 1 and the address, and keeps the packet
+-- no match answers 0; else the entry goes, and what is found at its address decides
 unfoldable pub takeIn : ℕ → (ℕ → State → Outcome State) → State → Outcome State
 takeIn id found s =
     unless (ltb (victim id (s .entries)) (length (s .entries))) (done (0 ∷ []) s)
     (found (getD (s .entries) (victim id (s .entries)) none .addr) (withEntries (without (victim id (s .entries)) 1 (s .entries)) s))
 
+-- one form answers 1 and the address, and keeps the packet
 unfoldable pub deleteKeepingIn : ℕ → State → Outcome State
 deleteKeepingIn id s = takeIn id (λ a t. done (1 ∷ a ∷ []) t) s
 

@@ -1,12 +1,11 @@
 -- What a deletion of several entries comes to: by a range of rows, and by what the range is.
 -- Assumes nothing.
-use Prim.Native.Nat.{_+_, _-_, _≤_, ℕ}
-use lib.ListN.{drop, drop-of-length-le, length, take}
+use Prim.Native.Nat.{_+_, _≤_, ℕ}
+use lib.ListN.{drop, length, take}
 use lib.Seq.{take-all}
 use mathlib.Core.Bool.{Bool, false, true}
 use mathlib.Core.List.{List}
 use mathlib.Core.Path.{_≡_, _∙_, ap, ap₂, refl, sym}
-use native.Mathlib.Nat.{zero-add}
 use native.Mathlib.Omega.{arith}
 use Rattle.record.specs.Refusals.{paper}
 use Rattle.record.specs.declared.Record.{Record}
@@ -16,7 +15,7 @@ use Rattle.slots.specs.View.{view}
 use Rattle.rows.proofs.Rows.{length-unpack}
 use Rattle.selection.proofs.WindowLaws.{window-covered}
 use Rattle.table_edit.proofs.WindowLeft.{window-rows}
-use Rattle.table_edit.proofs.Stays.{length-without}
+use Rattle.table_edit.proofs.Stays.{remove-number, without-all}
 use Rattle.table_edit.specs.Edits.{afterRemove, without}
 use Rattle.rows.specs.Entries.{Entry, unpack}
 use Rattle.rows.specs.Order.{ordered}
@@ -59,9 +58,7 @@ module _ (su : Setup) (r : Record) (st le ro : List ℕ) where
     next-is : p .first + p .number ≤ r .count → recordOf cleared ≡ leftOf r (p .number) b
     unfolding cleared left stateOf
     next-is h =
-        let l = length-unpack (r .count) ro in
-        let e = length-without (p .first) (p .number) (unpack (r .count) ro) (omega arith) ∙ ap (λ (m : ℕ). m - p .number) l in
-        ap (λ (m : ℕ). record { count = m; clock = r .clock; margin = r .margin; enabled = b }) e
+        ap (λ (m : ℕ). record { count = m; clock = r .clock; margin = r .margin; enabled = b }) (remove-number ro (r .count) (p .first) (p .number) h)
 
     pub clear-done : (t : Tally) (n : Record) (st′ le′ ro′ : List ℕ) → p .first + p .number ≤ r .count
         → Sweeps (su .store) st le (take (p .number) (drop (p .first) (unpack (r .count) ro))) t st′ le′
@@ -97,12 +94,11 @@ module _ (su : Setup) (r : Record) (st le ro : List ℕ) where
 
   -- all rows
   reset-is : clearPart (record { first = 0; number = r .count }) false (stateOf su r st le ro) ≡ resetIn (stateOf su r st le ro)
-  unfolding clearPart resetIn stateOf without
+  unfolding clearPart resetIn stateOf
   reset-is =
       let l = length-unpack (r .count) ro in
       let g = take-all (r .count) (unpack (r .count) ro) (omega arith) in
-      let v = drop-of-length-le (unpack (r .count) ro) {i = r .count} (omega arith) in
-      ap₂ (λ (a b : List Entry). clearIn a b (enabledAs false (stateOf su r st le ro))) g (rw (zero-add (r .count)) v)
+      ap₂ (λ (a b : List Entry). clearIn a b (enabledAs false (stateOf su r st le ro))) g (without-all ro (r .count))
 
   pub reset-done : (a : Paper) (n : Record) (st′ le′ ro′ : List ℕ)
       → Does su r st le ro (clearPart (record { first = 0; number = r .count }) false) a n st′ le′ ro′ → Does su r st le ro resetIn a n st′ le′ ro′

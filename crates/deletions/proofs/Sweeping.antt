@@ -3,11 +3,10 @@
 use Prim.Native.Nat.{_+_, _-_, _<_, _≤_, suc, ℕ}
 use lib.ListN.{drop, take}
 use mathlib.Core.List.{List, _∷_}
-use mathlib.Core.Path.{_≡_, _∙_, ap, ap₂, refl, sym}
+use mathlib.Core.Path.{_≡_, _∙_, ap, refl}
 use native.Mathlib.Omega.{arith}
-use Rattle.rules.specs.Papers.{Outcome, Paper, after, done, refused, says}
+use Rattle.rules.specs.Papers.{after, says}
 use Rattle.store.proofs.Laid.{leaves-as, leaves-now, leaves-same, leaves-then}
-use Rattle.lookup.proofs.Numbers.{not-done}
 use Rattle.store.specs.Calls.{deleteIn}
 use Rattle.layout.specs.Judge.{Sound as StoreSound}
 use Rattle.slots.specs.Pools.{Pool}
@@ -17,39 +16,26 @@ use Rattle.slots.specs.View.{Leaves, view}
 use Rattle.store.specs.declared.Deleted.{Deleted}
 use Rattle.store.specs.declared.Deleted.the-variants as D
 use Rattle.layout.specs.declared.Setup.{Setup as StoreSetup}
-use Rattle.slots.specs.declared.StoreRefusal.{StoreRefusal}
-use Rattle.store_laws.proofs.Numbers.{delete-numbered}
+use Rattle.store_laws.proofs.Numbers.{by-deleted}
 use Rattle.store_laws.proofs.StaysSound.{delete-stays}
 use Rattle.rows.proofs.Rows.{drop-row}
 use Rattle.rows.specs.Entries.{row, unpack}
 use Rattle.deletions.specs.Answers.{lastPaper}
 use Rattle.deletions.specs.Deleting.{Swept, sweep, swept, unswept}
 use Rattle.deletions.specs.Inside.{Sweeps, counted, tallied}
-use Rattle.deletions.specs.declared.Last.the-variants.{Missing, None}
+use Rattle.deletions.specs.declared.Last.the-variants.{None}
 use Rattle.deletions.specs.declared.Tally.{Tally}
 
 abbrev pub untold : Tally
 untold = record { deleted = 0; missing = 0; last = None }
 
 -- the tally tells what one deletion more came to
-module _ (t : Tally) (ps qs : List Pool) (a : ℕ) where
-  missed : Paper → List Pool → Swept
-  missed p xs = record { deleted = t .deleted; missing = t .missing + 1; last = p; pools = xs }
-
-  there : List Pool → Swept
-  there xs = record { deleted = t .deleted + 1; missing = t .missing; last = lastPaper (t .last); pools = xs }
-
-  told-by : (o : Outcome (List Pool)) (r : Deleted) → deletedPaper r ≡ says o → ((p : Paper) → o ≡ refused p → p .number ≡ 0 → ⊥)
-      → qs ≡ after o ps (λ y. y) → tallied (counted t r) qs ≡ swept (tallied t ps) o
-  unfolding deletedPaper says after swept lastPaper missed there
-  told-by (refused p) D.Done q h v = absurd (h p refl (sym (ap (λ (x : Paper). x .number) q)))
-  told-by (refused p) (D.Refused e) q h v = ap₂ missed q v
-  told-by (done vs xs) D.Done q h v = ap there v
-  told-by (done vs xs) (D.Refused e) q h v = absurd (not-done e vs q)
-
-  told-one : (r : Deleted) → deletedPaper r ≡ says (deleteIn ps a) → qs ≡ after (deleteIn ps a) ps (λ y. y)
-      → tallied (counted t r) qs ≡ swept (tallied t ps) (deleteIn ps a)
-  told-one r q v = told-by (deleteIn ps a) r q (delete-numbered ps a) v
+told-one : (t : Tally) (ps qs : List Pool) (a : ℕ) (r : Deleted) → deletedPaper r ≡ says (deleteIn ps a)
+    → qs ≡ after (deleteIn ps a) ps (λ y. y) → tallied (counted t r) qs ≡ swept (tallied t ps) (deleteIn ps a)
+unfolding after swept lastPaper
+told-one t ps qs a r q =
+    by-deleted (λ o r. qs ≡ after o ps (λ y. y) → tallied (counted t r) qs ≡ swept (tallied t ps) o) ps a r q
+    (λ e v. ap (tallied (counted t (D.Refused e))) v) (λ vs xs v. ap (tallied (counted t D.Done)) v)
 
 -- one packet more is one more
 counted-one : (t : Tally) (r : Deleted) → counted t r .deleted + counted t r .missing ≡ t .deleted + t .missing + 1
@@ -101,11 +87,3 @@ module _ (su : StoreSetup) (st₀ le₀ w : List ℕ) (n first end : ℕ) where
       let y : end - first ≡ number = omega arith in
       let h : tallied t (view su st le) ≡ sweep (take number (drop first (unpack n w))) (unswept (view su st₀ le₀)) = rw (z, y) at (g .goes) in
       record { told = h; lists = leaves-as su st₀ le₀ _ _ st le (ap (λ (x : Swept). x .pools) h) (g .frame) }
-
-pub counted-done : (t : Tally) (r : Deleted) → r ≡ D.Done
-    → _≡_ {A = Tally} (record { deleted = t .deleted + 1; missing = t .missing; last = t .last }) (counted t r)
-counted-done t r q = rw q
-
-pub counted-missing : (t : Tally) (r : Deleted) (e : StoreRefusal) → r ≡ D.Refused e
-    → _≡_ {A = Tally} (record { deleted = t .deleted; missing = t .missing + 1; last = Missing e }) (counted t r)
-counted-missing t r e q = rw q

@@ -35,7 +35,7 @@ unswept ps = record { deleted = 0; missing = 0; last = no 0 []; pools = ps }
 abbrev pub tally : Swept → List ℕ
 tally x = x .deleted ∷ x .missing ∷ x .last .number ∷ x .last .values
 
--- a state without the entries `gone`, whose packets are deleted
+-- the packets of the entries `gone` are deleted, and the entries `left` stay
 unfoldable pub clearIn : List Entry → List Entry → State → Outcome State
 clearIn gone left s =
     let x = sweep gone (unswept (s .pools)) in

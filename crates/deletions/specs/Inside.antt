@@ -40,5 +40,6 @@ unfoldable pub clearPart : Part → Bool → State → Outcome State
 clearPart p b s =
     clearIn (take (p .number) (drop (p .first) (s .entries))) (without (p .first) (p .number) (s .entries)) (enabledAs b s)
 
+-- the record with n entries fewer, enabled or disabled
 abbrev pub leftOf : Record → ℕ → Bool → Record
 leftOf r n b = record { count = r .count - n; clock = r .clock; margin = r .margin; enabled = b }

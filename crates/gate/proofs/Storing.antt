@@ -11,39 +11,24 @@ use Rattle.record.specs.declared.Done.the-variants.{Ok, Refused}
 use Rattle.record.specs.declared.Record.{Record}
 use Rattle.record.specs.declared.ScheduleRefusal.{ScheduleRefusal}
 use Rattle.record.specs.declared.ScheduleRefusal.the-variants.{BadTime}
-use Rattle.rules.specs.Papers.{done, no, refused}
+use Rattle.rules.specs.Papers.{done, no}
 use Rattle.rules.specs.Tests.{unless}
 use Rattle.store.proofs.Laid.{leaves-same}
 use Rattle.rows.proofs.Rows.{length-unpack}
-use Rattle.table_edit.proofs.Stays.{length-insertSorted}
+use Rattle.table_edit.proofs.Stays.{insert-number}
 use Rattle.table_edit.specs.Edits.{afterInsert, insertSorted}
 use Rattle.rows.specs.Entries.{entryOf, unpack}
-use Rattle.table_edit.specs.Edits.{Spare}
 use Rattle.time.specs.Time.{inRange, inTimeMargin, momentOf}
 use Rattle.time.specs.declared.UnixTime.{UnixTime}
-use Rattle.gate.specs.Entering.{enter, insertStoredIn, timed}
+use Rattle.gate.specs.Entering.{insertStoredIn, timed}
 use Rattle.gate.specs.Inside.{Gate}
 use Rattle.schedule.specs.State.{State, recordOf, stateOf, withCount, withEntries}
 use Rattle.schedule.specs.Promise.{Does}
 use Rattle.schedule.specs.declared.Setup.{Setup}
 use Rattle.schedule.specs.declared.Verdict.{Verdict}
 use Rattle.schedule.specs.declared.Verdict.the-variants as Ve
-use Rattle.schedule.proofs.Facts.{Facts}
-use Rattle.gate.proofs.Gates.{enters}
+use Rattle.gate.proofs.Gates.{enters, gate-refused}
 use Rattle.schedule.proofs.Promises.{does-done, does-refused, record-same}
-
--- the gate, by its verdict
-pub gate-refused : (su : Setup) (r : Record) (t : UnixTime) (v : Verdict) (e : ScheduleRefusal) → Gate su r t v → v ≡ Ve.Refused e
-    → (id a : ℕ) (vs : List ℕ) (s : State) → recordOf s ≡ r → enter su t id a vs s ≡ refused (paper e)
-gate-refused su r t v e g q = rw q at g
-
-pub gate-fine : (su : Setup) (r : Record) (t : UnixTime) (v : Verdict) → Gate su r t v → v ≡ Ve.Fine
-    → (inTimeMargin (r .clock) (r .margin) t ≡ false) × (r .count < su .entries)
-gate-fine su r t v g q = rw q at g
-
--- a row for one more
-pub spare : {su : Setup} {r : Record} {st le ro : List ℕ} → Facts su r st le ro → r .count < su .entries → Spare ro (r .count)
-spare f l = record { room = omega arith; few = omega arith }
 
 module _ (su : Setup) (r : Record) (st le ro : List ℕ) (t : UnixTime) (id a : ℕ) where
   pub stored-bad : inRange t ≡ false → Does su r st le ro (insertStoredIn su t id a) (donePaper (Refused BadTime)) r st le ro
@@ -63,9 +48,7 @@ module _ (su : Setup) (r : Record) (st le ro : List ℕ) (t : UnixTime) (id a : 
 
   next-record : recordOf after-stored ≡ withCount (r .count + 1) r
   unfolding after-stored stateOf
-  next-record =
-      ap (λ (n : ℕ). withCount n r)
-      (length-insertSorted (entryOf (momentOf t) id a) (unpack (r .count) ro) ∙ ap (λ (n : ℕ). n + 1) (length-unpack (r .count) ro))
+  next-record = ap (λ (n : ℕ). withCount n r) (insert-number ro (r .count) (entryOf (momentOf t) id a))
 
   stored-is : inRange t ≡ true → inTimeMargin (r .clock) (r .margin) t ≡ false → r .count < su .entries
       → insertStoredIn su t id a (stateOf su r st le ro) ≡ done [] after-stored

@@ -1,5 +1,5 @@
--- What the walks of the three calls share: the machine values, a record of the function's own lent to a call, and taken back at
--- the last value that the call says.
+-- What the walks of the three calls share: the machine values, a record of the function's own lent to a call, and taken back at the last value
+-- that the call says.
 -- Assumes nothing.
 use mathlib.Core.Path.{subst}
 use Prim.Native.Nat.{ℕ}
@@ -35,8 +35,7 @@ both-val = LL.val C.the-type C′.the-laws
 pub is-answer : (r : Done) (v : Val) → Is D.the-row r (v ∷ []) → Is D.the-row r (answer-val r ∷ [])
 is-answer r v is = subst (Is D.the-row r) (EL.tells D.the-type D′.the-laws r (v ∷ []) is) is
 
-pub both-is :
-    (c : Changed) → Is T.the-row (c .next) (val (c .next) ∷ []) → Is D.the-row (c .answer) (answer-val (c .answer) ∷ [])
+pub both-is : (c : Changed) → Is T.the-row (c .next) (val (c .next) ∷ []) → Is D.the-row (c .answer) (answer-val (c .answer) ∷ [])
     → Is C.the-row c (both-val c ∷ [])
 both-is c n a = LL.owes C.the-type C′.the-laws c (n, (a, tt))
 
@@ -54,15 +53,11 @@ module _ {M : Type 1} (𝓤 : URA M) (H : Heap 𝓤) (A : Atoms 𝓤) (W : Given
       fpack ! (List Val) held (val h ∷ []) $ done !
 
   -- and back
-  pub take-out :
-      ent 𝓤 (sem 𝓤 H A (partAt T.the-row fullShare h b o))
+  pub take-out : ent 𝓤 (sem 𝓤 H A (partAt T.the-row fullShare h b o))
       (guard 𝓤 (Is T.the-row h (val h ∷ [])) (sem 𝓤 H A (fat fullShare T′.mir b o (val h))))
   unfolding partOf
   take-out =
-      qed W (‵ (partAt T.the-row fullShare h b o) ∷ []) ∵ fpick !
-      (λ vs. fsplit ! $
-      spelt ! T.the-row (Is T.the-row) (shows 𝓤 H A T.the-row) (LL.vals T.the-type T′.the-laws)
-      (LL.tells T.the-type T′.the-laws) fullShare h vs b o $
-      move ! (1 ∷ []) $
-      peeks ! T.the-row (Is T.the-row) (shows 𝓤 H A T.the-row) h (val h ∷ [])
-      (λ is. drop ! $ check ! is $ by ! (W .laws .raw-at fullShare T′.mir b o (val h))))
+      qed W (‵ (partAt T.the-row fullShare h b o) ∷ []) ∵ fpick ! (λ vs. fsplit ! $
+      spelt ! T.the-row (Is T.the-row) (shows 𝓤 H A T.the-row) (LL.vals T.the-type T′.the-laws) (LL.tells T.the-type T′.the-laws) fullShare h vs b o $
+      move ! (1 ∷ []) $ peeks ! T.the-row (Is T.the-row) (shows 𝓤 H A T.the-row) h (val h ∷ []) (λ is. drop ! $ check ! is $
+      by ! (W .laws .raw-at fullShare T′.mir b o (val h))))

@@ -1,2 +1,3 @@
--- What the walks of the three calls share.
+-- What the walks of the three calls share, and the walk of enable and disable.
 pub mod Lent
+pub mod Marking

@@ -28,7 +28,7 @@ use Rattle.schedule.specs.declared.Setup.{Setup}
 use Rattle.schedule.specs.declared.Verdict.{Verdict}
 use Rattle.schedule.specs.declared.Verdict.the-variants as Ve
 use Rattle.insertions.proofs.Adding.{blocked, nested-refused, plain-enters}
-use Rattle.gate.proofs.Storing.{gate-refused}
+use Rattle.gate.proofs.Gates.{gate-refused}
 use Rattle.schedule.proofs.Promises.{does-as, does-refused, record-same}
 
 module _ (su : Setup) (r : Record) (st le ro : List ℕ) (t : UnixTime) (tc : List ℕ) where

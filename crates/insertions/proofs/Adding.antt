@@ -13,9 +13,8 @@ use Rattle.record.specs.Refusals.{paper}
 use Rattle.record.specs.declared.Record.{Record}
 use Rattle.record.specs.declared.ScheduleRefusal.{ScheduleRefusal}
 use Rattle.record.specs.declared.ScheduleRefusal.the-variants.{Store}
-use Rattle.rules.specs.Papers.{Outcome, Paper, after, done, no, refused, says}
+use Rattle.rules.specs.Papers.{Outcome, after, done, no, refused, says}
 use Rattle.rules.specs.Tests.{unless}
-use Rattle.lookup.proofs.Numbers.{not-done}
 use Rattle.store.specs.Calls.{addIn}
 use Rattle.slots.specs.Pools.{Pool}
 use Rattle.store.specs.Refusals.{addedPaper}
@@ -24,9 +23,9 @@ use Rattle.slots.specs.View.{Leaves, view}
 use Rattle.store.specs.declared.Added.{Added}
 use Rattle.store.specs.declared.Added.the-variants as A
 use Rattle.slots.specs.declared.StoreRefusal.{StoreRefusal}
-use Rattle.store_laws.proofs.Numbers.{add-numbered}
+use Rattle.store_laws.proofs.Numbers.{by-added}
 use Rattle.rows.proofs.Rows.{length-unpack}
-use Rattle.table_edit.proofs.Stays.{length-insertSorted}
+use Rattle.table_edit.proofs.Stays.{insert-number}
 use Rattle.table_edit.specs.Edits.{afterInsert, insertSorted}
 use Rattle.rows.specs.Entries.{entryOf, unpack}
 use Rattle.time.specs.Time.{inTimeMargin, momentOf}
@@ -43,33 +42,21 @@ use Rattle.schedule.specs.declared.Setup.{Setup}
 use Rattle.gate.proofs.Gates.{enters}
 use Rattle.schedule.proofs.Promises.{does-done}
 
--- an outcome, by what it says
-says-refused : {A : Type 0} (o : Outcome A) (x : StoreRefusal) → storePaper x ≡ says o → o ≡ refused (storePaper x)
-unfolding says
-says-refused (refused p) x q = ap refused (sym q)
-says-refused (done vs y) x q = absurd (not-done x vs q)
+-- what the store came to, by what it answered
+abbrev Came : Outcome (List Pool) → Added → Type 0
+Came o (A.Refused x) = o ≡ refused (storePaper x)
+Came o (A.At a) = o ≡ done (a ∷ []) (after o [] (λ ps. ps))
 
-says-done : (o : Outcome (List Pool)) (a : ℕ) → no 0 (a ∷ []) ≡ says o → ((p : Paper) → o ≡ refused p → p .number ≡ 0 → ⊥)
-    → o ≡ done (a ∷ []) (after o [] (λ ps. ps))
-unfolding says after
-says-done (refused p) a q h = absurd (h p refl (sym (ap (λ (x : Paper). x .number) q)))
-says-done (done vs ps) a q h = ap (λ (l : List ℕ). done l ps) (sym (ap (λ (x : Paper). x .values) q))
+came : (spill : Bool) (ps : List Pool) (d : List ℕ) (r : Added) → addedPaper r ≡ says (addIn spill ps d) → Came (addIn spill ps d) r
+unfolding after
+came spill ps d r q = by-added Came spill ps d r q (λ e. refl) (λ a qs. refl)
 
 -- the first refusal of a command that 13 or 14 stops
-first-by : (o : Outcome (List Pool)) (own : ScheduleRefusal) (a : Added) → addedPaper a ≡ says o
-    → ((p : Paper) → o ≡ refused p → p .number ≡ 0 → ⊥) → paper (firstRefusal a own) ≡ firstPaper o own
-unfolding addedPaper says paper firstRefusal firstPaper
-first-by (refused p) own (A.Refused x) q h = q
-first-by (refused p) own (A.At n) q h = absurd (h p refl (sym (ap (λ (x : Paper). x .number) q)))
-first-by (done vs ps) own (A.Refused x) q h = absurd (not-done x vs q)
-first-by (done vs ps) own (A.At n) q h = refl
-
-pub answers-first :
-    (spill : Bool) (ps : List Pool) (d : List ℕ) (own e : ScheduleRefusal) (a : Added) (r : InsertAnswer) → r ≡ Refused e
-    → e ≡ firstRefusal a own
-    → addedPaper a ≡ says (addIn spill ps d) → insertedPaper r ≡ firstPaper (addIn spill ps d) own
-unfolding insertedPaper
-answers-first spill ps d own e a r p q s = rw (p, q) (first-by (addIn spill ps d) own a s (add-numbered spill ps d))
+pub answers-first : (spill : Bool) (ps : List Pool) (d : List ℕ) (own e : ScheduleRefusal) (a : Added) (r : InsertAnswer) → r ≡ Refused e
+    → e ≡ firstRefusal a own → addedPaper a ≡ says (addIn spill ps d) → insertedPaper r ≡ firstPaper (addIn spill ps d) own
+unfolding insertedPaper paper firstRefusal firstPaper
+answers-first spill ps d own e a r p q s =
+    rw (p, q) (by-added (λ o a. paper (firstRefusal a own) ≡ firstPaper o own) spill ps d a s (λ x. refl) (λ n qs. refl))
 
 pub blocked : (su : Setup) (t : UnixTime) (id : ℕ) (s : State) (o : Outcome (List Pool)) (own : ScheduleRefusal)
     → ((a : ℕ) (vs : List ℕ) (ps : List Pool) → enter su t id a vs (withPools ps s) ≡ refused (paper own))
@@ -96,24 +83,23 @@ module _ (su : Setup) (r : Record) (st le ro : List ℕ) (t : UnixTime) (tc : Li
       (after (addIn (su .store .spill) (view (su .store) st le) tc) (view (su .store) st le) (λ ps. ps)) st′ le′) where
     pub enter-refused : (x : StoreRefusal) → storePaper x ≡ says (addIn (su .store .spill) (view (su .store) st le) tc)
         → Does su r st le ro (λ s. entered su t id s (addIn (su .store .spill) (s .pools) tc)) (paper (Store x)) r st′ le′ ro
-    unfolding entered stateOf says after paper
+    unfolding entered stateOf says after paper addedPaper
     enter-refused x e =
-        let q = says-refused (addIn (su .store .spill) (view (su .store) st le) tc) x e in
+        let q = came (su .store .spill) (view (su .store) st le) tc (A.Refused x) e in
         record { answer = rw q; next = rw q; lists = rw q (rw q at l); rows = rw q }
 
     pub enter-done : (a : ℕ) (n : Record) (ro′ : List ℕ) → no 0 (a ∷ []) ≡ says (addIn (su .store .spill) (view (su .store) st le) tc)
         → inTimeMargin (r .clock) (r .margin) t ≡ false → r .count < su .entries → n ≡ withCount (r .count + 1) r
         → ro′ ≡ afterInsert ro (r .count) (entryOf (momentOf t) id a)
         → Does su r st le ro (λ s. entered su t id s (addIn (su .store .spill) (s .pools) tc)) (no 0 (a ∷ id ∷ [])) n st′ le′ ro′
-    unfolding entered stateOf after
+    unfolding entered stateOf after addedPaper
     enter-done a n ro′ e m f p q =
         let o = addIn (su .store .spill) (view (su .store) st le) tc in
-        let d : o ≡ done (a ∷ []) (after o [] (λ ps. ps)) = says-done o a e (add-numbered _ _ tc) in
+        let d : o ≡ done (a ∷ []) (after o [] (λ ps. ps)) = came (su .store .spill) (view (su .store) st le) tc (A.At a) e in
         let s = withPools (after o [] (λ ps. ps)) (stateOf su r st le ro) in
         let h : length (unpack (r .count) ro) < su .entries = omega (arith, length-unpack (r .count) ro) in
         let x : recordOf (withEntries (insertSorted (entryOf (momentOf t) id a) (unpack (r .count) ro)) s) ≡ withCount (r .count + 1) r =
-        ap (λ (k : ℕ). withCount k r)
-        (length-insertSorted (entryOf (momentOf t) id a) (unpack (r .count) ro) ∙ ap (λ (k : ℕ). k + 1) (length-unpack (r .count) ro)) in
+        ap (λ (k : ℕ). withCount k r) (insert-number ro (r .count) (entryOf (momentOf t) id a)) in
         rw (p ∙ sym x)
         (does-done su r st le ro (λ s. entered su t id s (addIn (su .store .spill) (s .pools) tc)) (a ∷ id ∷ []) _ st′ le′ ro′
         (ap (entered su t id (stateOf su r st le ro)) d ∙ enters su t id a (a ∷ id ∷ []) s m h)

@@ -17,15 +17,17 @@ use Rattle.time.specs.declared.UnixTime.{UnixTime}
 use Rattle.schedule.specs.State.{State, withPools}
 use Rattle.schedule.specs.declared.Setup.{Setup}
 
--- a command of any time in range: 9 where it is unreadable, 10 where it is itself an insertion, then the store's 11 and 12, then
--- 13 and 14. All of its bytes are stored, those after its total too. It answers the address and the request ID
+-- the store's 11 and 12, then 13 and 14; it answers the address and the request ID
 unfoldable pub entered : Setup → UnixTime → ℕ → State → Outcome (List Pool) → Outcome State
 entered su t id s (refused p) = refused p
 entered su t id s (done vs ps) = enter su t id (getD vs 0 0) (getD vs 0 0 ∷ id ∷ []) (withPools ps s)
 
+-- a command that is itself an insertion
 abbrev pub nested : Header → Bool
 nested h = eqb (h .service) 11 && eqb (h .subservice) 4
 
+-- a command of any time in range: 9 where it is unreadable, 10 where it is itself an insertion, then as above. All of its bytes are stored,
+-- those after its total too
 unfoldable pub activity : Setup → UnixTime → List ℕ → State → Reading → Outcome State
 activity su t tc s (Unreadable f) = refused (no 9 [])
 activity su t tc s (Packet h) =
@@ -34,5 +36,6 @@ activity su t tc s (Packet h) =
 abbrev pub insertTc : Setup → UnixTime → List ℕ → State → Outcome State
 insertTc su t tc s = activity su t tc s (readOf 2 tc)
 
+-- with its time as an argument: 4 before all of these
 unfoldable pub insertUnwrappedIn : Setup → UnixTime → List ℕ → State → Outcome State
 insertUnwrappedIn su t tc s = timed t (insertTc su t tc s)

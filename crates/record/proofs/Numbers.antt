@@ -1,4 +1,4 @@
--- Every refusal of the schedule has a number, and no refusal has another's number and values.
+-- No refusal of the schedule has the number 0, which is an answer's.
 -- Assumes nothing.
 use lib.Dec.{eqb}
 use borrow.Author.Tests.{eqb-false}

@@ -38,9 +38,11 @@ unfoldable pub unpack : ℕ → List ℕ → List Entry
 unpack zero w = []
 unpack (suc n) w = row w 0 ∷ unpack n (drop width w)
 
+-- an entry's words, in a row's order
 abbrev pub words : Entry → List ℕ
 words e = e .secs ∷ e .nanos ∷ e .id ∷ e .addr ∷ []
 
+-- the rows of entries, one behind the other
 unfoldable pub pack : List Entry → List ℕ
 pack [] = []
 pack (e ∷ es) = words e ++ pack es

@@ -12,7 +12,7 @@ use Rattle.rules.proofs.All.{all-each, and-left, and-right}
 use Rattle.layout.proofs.Bounds.{buffers-fit}
 use Rattle.layout.specs.Judge.{Sized, Sound as StoreSound, setupOk as storeSetupOk}
 use Rattle.rows.specs.Entries.{unpack, width}
-use Rattle.rows.specs.Order.{maxEntries, ordered, Sound as TableSound}
+use Rattle.rows.specs.Order.{maxEntries, ordered, Sound as TableSound, Held}
 use Rattle.time.proofs.Judged.{margin-judged, time-judged}
 use Rattle.time.specs.Time.{InRange, MarginInRange, inRange, marginInRange}
 use Rattle.schedule.specs.Inside.{Long}
@@ -46,9 +46,12 @@ facts {su} {r} {st} {le} {ro} s =
       kept = d .1 .1 .0;
     }
 
--- the table's own form
+-- the table's own forms
 pub table-sound : {su : Setup} {r : Record} {st le ro : List ℕ} → Facts su r st le ro → TableSound ro (r .count)
 table-sound f = record { room = omega arith; few = omega arith; kept = f .kept }
+
+pub table-held : {su : Setup} {r : Record} {st le ro : List ℕ} → Facts su r st le ro → Held ro (r .count)
+table-held f = record { room = omega arith }
 
 -- what a good setup says by itself
 pub setup-facts : (su : Setup) → setupOk su ≡ true → (storeSetupOk (su .store) ≡ true) × (1 ≤ su .entries) × (su .entries ≤ maxEntries)

@@ -14,7 +14,7 @@ use Rattle.slots.specs.View.{Leaves, lensWith, storeWith}
 use Rattle.rows.proofs.Rows.{length-unpack}
 use Rattle.rows.specs.Entries.{relaid}
 use Rattle.schedule.specs.Judge.{Judges, Sound, judging}
-use Rattle.schedule.specs.Promise.{Does, Writes}
+use Rattle.schedule.specs.Promise.{Does, Writes, WritesOver}
 use Rattle.schedule.specs.State.{State, recordOf, stateOf, withCount}
 use Rattle.schedule.specs.declared.Setup.{Setup}
 use Rattle.record.specs.Refusals.{paper}
@@ -35,6 +35,12 @@ pub judging-fine : {A : Type 0} (su : Setup) (r : Record) (st le ro : List ℕ) 
 unfolding judging judgedBy unless
 judging-fine su r st le ro call s = rw (s .setup, s .buffers, s .state)
 
+-- a refusal writes nothing
+pub refused-writes : (k : ℕ) (su : Setup) (r : Record) (st le ro : List ℕ) (o : Outcome State) (p : Paper) → o ≡ refused p
+    → WritesOver k su r st le ro o p r st le ro
+unfolding says after
+refused-writes k su r st le ro o p h = record { answer = rw h; next = rw h; store = rw h; lens = rw h; rows = rw h }
+
 module _ (su : Setup) (r : Record) (st le ro : List ℕ) (call : State → Outcome State) where
   -- a judged call that refuses
   pub does-refused : (p : Paper) → call (stateOf su r st le ro) ≡ refused p → Does su r st le ro call p r st le ro
@@ -48,7 +54,7 @@ module _ (su : Setup) (r : Record) (st le ro : List ℕ) (call : State → Outco
   unfolding says after
   does-done vs s st′ le′ ro′ q l e = record { answer = rw q; next = rw q; lists = rw q l; rows = rw q e }
 
-  module _ (r′ : Record) (st′ le′ ro′ : List ℕ) (fits : allRows (su .store) ≤ length le) where
+  module _ (st′ le′ : List ℕ) (fits : allRows (su .store) ≤ length le) where
     store-by : (o : Outcome State) → Leaves (su .store) st le (after o (stateOf su r st le ro) (λ s. s) .pools) st′ le′
         → st′ ≡ after o st (λ s. storeWith (su .store) st (s .pools))
     unfolding after stateOf
@@ -70,17 +76,14 @@ module _ (su : Setup) (r : Record) (st le ro : List ℕ) (call : State → Outco
       (record {
         answer = d .answer;
         next = d .next;
-        store = store-by r′ st′ le′ ro′ f (call (stateOf su r st le ro)) (d .lists);
-        lens = lens-by r′ st′ le′ ro′ f (call (stateOf su r st le ro)) (d .lists);
+        store = store-by st′ le′ f (call (stateOf su r st le ro)) (d .lists);
+        lens = lens-by st′ le′ f (call (stateOf su r st le ro)) (d .lists);
         rows = d .rows;
       })
 
   pub writes-refused : (v : Verdict) (e : ScheduleRefusal) → Judges su r st le ro v → v ≡ Ve.Refused e
       → Writes su r st le ro (judging su r st le ro call) (paper e) r st le ro
-  unfolding says after
-  writes-refused v e j q =
-      let h = judging-refused su r st le ro call v e j q in
-      record { answer = rw h; next = rw h; store = rw h; lens = rw h; rows = rw h }
+  writes-refused v e j q = refused-writes (r .count) su r st le ro (judging su r st le ro call) (paper e) (judging-refused su r st le ro call v e j q)
 
 -- calls that come to the same here promise the same
 pub does-as : (su : Setup) (r : Record) (st le ro : List ℕ) (f g : State → Outcome State) (p : Paper) (r′ : Record) (st′ le′ ro′ : List ℕ)

@@ -4,9 +4,7 @@ use Prim.Native.Nat.{ℕ}
 use lib.ListN.{length}
 use mathlib.Core.Bool.{false, true}
 use mathlib.Core.List.{List, []}
-use mathlib.Core.Path.{_≡_, _∙_, ap, refl}
-use native.Mathlib.Nat.{zero-add}
-use native.Mathlib.Omega.{arith}
+use mathlib.Core.Path.{_≡_, _∙_, ap, refl, sym}
 use Rattle.record.specs.Refusals.{donePaper, paper}
 use Rattle.record.specs.declared.Done.the-variants as Dn
 use Rattle.record.specs.declared.Record.{Record}
@@ -19,9 +17,8 @@ use Rattle.store.specs.Calls.{freshPools}
 use Rattle.lookup.specs.Refusals.{paper as storePaper}
 use Rattle.slots.specs.View.{Leaves}
 use Rattle.slots.specs.declared.StoreRefusal.the-variants.{BadBuffers, BadSetup}
-use Rattle.rows.proofs.Rows.{past-end}
-use Rattle.table_edit.specs.Edits.{afterRemove, without}
-use Rattle.rows.specs.Entries.{relaid, unpack}
+use Rattle.table_edit.specs.Edits.{afterRemove}
+use Rattle.rows.specs.Entries.{relaid}
 use Rattle.time.specs.Time.{inRange, marginInRange}
 use Rattle.time.specs.declared.Margin.{Margin}
 use Rattle.time.specs.declared.UnixTime.{UnixTime}
@@ -32,6 +29,8 @@ use Rattle.schedule.specs.declared.Setup.{Setup}
 use Rattle.schedule.specs.declared.Verdict.{Verdict}
 use Rattle.schedule.specs.declared.Verdict.the-variants as Ve
 use Rattle.schedule.proofs.Facts.{long-enough}
+use Rattle.table_edit.proofs.Stays.{without-all}
+use Rattle.schedule.proofs.Promises.{refused-writes}
 
 -- what the judging answers, by the tests that it made
 module _ (su : Setup) (room lens rows : ℕ) (c : UnixTime) (m : Margin) where
@@ -67,15 +66,10 @@ module _ (su : Setup) (r : Record) (st le ro : List ℕ) (c : UnixTime) (m : Mar
     (j : StartJudges su (length st) (length le) (length ro) c m v) where
   pub start-refused : (e : ScheduleRefusal) → v ≡ Ve.Refused e
       → Starts su r st le ro (startIn su (length st) (length le) (length ro) c m) (donePaper (Dn.Refused e)) r st le ro
-  unfolding startedAs says after donePaper
+  unfolding startedAs donePaper
   start-refused e q =
       let g = rw q at j in
-      rw (← (g .same)) (record { answer = refl; next = refl; store = refl; lens = refl; rows = refl })
-
-  all-gone : relaid ro (su .entries) (without 0 (su .entries) (unpack (su .entries) ro)) ≡ relaid ro (su .entries) []
-  unfolding without
-  all-gone =
-      ap (relaid ro (su .entries)) (rw (zero-add (su .entries)) (past-end (su .entries) ro (su .entries) (omega arith)))
+      refused-writes (su .entries) su r st le ro (startIn su (length st) (length le) (length ro) c m) (paper e) (sym (g .same))
 
   pub start-done : (n : Record) (st′ le′ ro′ : List ℕ) → v ≡ Ve.Fine → n ≡ startRecord c m
       → Leaves (su .store) st le (freshPools (su .store)) st′ le′ → ro′ ≡ afterRemove ro (su .entries) 0 (su .entries)
@@ -90,5 +84,5 @@ module _ (su : Setup) (r : Record) (st le ro : List ℕ) (c : UnixTime) (m : Mar
         next = e;
         store = store-laid (su .store) st le (freshPools (su .store)) st′ le′ l;
         lens = lens-laid (su .store) st le (freshPools (su .store)) st′ le′ l (w .lens-fit);
-        rows = k ∙ all-gone;
+        rows = k ∙ ap (relaid ro (su .entries)) (without-all ro (su .entries));
       })

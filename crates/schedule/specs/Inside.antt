@@ -24,10 +24,11 @@ pub record Long (su : Setup) (lens rows : ℕ) : Type 0 where
   pub lens-fit : allRows (su .store) ≤ lens
   pub rows-fit : su .entries * width ≤ rows
 
--- the fresh start's 1, 2 and 4: none is given, or which
+-- the record that a fresh start begins with
 abbrev pub startRecord : UnixTime → Margin → Record
 startRecord clock margin = record { count = 0; clock = clock; margin = margin; enabled = true }
 
+-- the fresh start's 1, 2 and 4: none is given, or which
 unfoldable pub startedAs : Setup → UnixTime → Margin → Verdict → Outcome State
 startedAs su clock margin Fine = done [] (freshState su clock margin)
 startedAs su clock margin (Refused e) = refused (paper e)

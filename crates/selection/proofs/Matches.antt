@@ -8,7 +8,8 @@ use Rattle.rows.specs.Order.{ordered}
 use Rattle.rules.proofs.All.{and-left, and-right, fails}
 use Rattle.rules.proofs.Cases.{eq-or-ne}
 use Rattle.rules.specs.Papers.{no}
-use Rattle.selection.specs.Match.{firstMatch, isMatch, lastLike, lastMatch, like, none, victim}
+use Rattle.selection.specs.Inside.{lastLike, like}
+use Rattle.selection.specs.Match.{firstMatch, isMatch, lastMatch, none, victim}
 use borrow.Author.Tests.{eq-eqb, eqb-true, ne-eqb}
 use lib.Dec.{eqb}
 use lib.ListN.{drop, getD, length}

@@ -40,6 +40,19 @@ filter-same p q u (e ∷ es) h o =
     let a = ordered-cons u e es o in
     rw (h e (a .range), filter-same p q (time e) es h (a .rest))
 
+-- of a list in order from u on: none passes, and all do
+pub filter-none : (p : Entry → Bool) (u : ℕ) (es : List Entry) → orderedFrom u es ≡ true → ((e : Entry) → u ≤ time e → p e ≡ false) → filter p es ≡ []
+filter-none p u [] o h = unfold filter in refl
+filter-none p u (e ∷ es) o h =
+    let a = ordered-cons u e es o in
+    filter-out p e es (h e (a .from)) ∙ filter-none p (time e) es (a .rest) (λ x k. h x (omega arith))
+
+pub filter-all : (p : Entry → Bool) (u : ℕ) (es : List Entry) → orderedFrom u es ≡ true → ((e : Entry) → u ≤ time e → p e ≡ true) → filter p es ≡ es
+filter-all p u [] o h = unfold filter in refl
+filter-all p u (e ∷ es) o h =
+    let a = ordered-cons u e es o in
+    filter-in p e es (h e (a .from)) ∙ ap (λ (r : List Entry). e ∷ r) (filter-all p (time e) es (a .rest) (λ x k. h x (omega arith)))
+
 module _ (lo hi : ℕ) (e : Entry) where
   pub inside : lo ≤ time e → time e < hi → between lo hi e ≡ true
   unfolding between
@@ -55,13 +68,10 @@ module _ (lo hi : ℕ) (e : Entry) where
 
 -- ---- a span of an ordered list
 
-span-none : (lo hi u : ℕ) (es : List Entry) → orderedFrom u es ≡ true → hi ≤ u → filter (between lo hi) es ≡ []
-span-none lo hi u [] o h = unfold filter in refl
-span-none lo hi u (e ∷ es) o h =
-    let a = ordered-cons u e es o in
-    filter-out (between lo hi) e es (behind lo hi e (omega arith)) ∙ span-none lo hi (time e) es (a .rest) (omega arith)
-
 module _ (lo hi : ℕ) where
+  none-behind : (u : ℕ) (es : List Entry) → orderedFrom u es ≡ true → hi ≤ u → filter (between lo hi) es ≡ []
+  none-behind u es o h = filter-none (between lo hi) u es o (λ e k. behind lo hi e (omega arith))
+
   pub span-part : (u : ℕ) (es : List Entry) → orderedFrom u es ≡ true
       → filter (between lo hi) es ≡ take (below hi es - below lo es) (drop (below lo es) es)
   span-part u [] o = unfold filter below in refl
@@ -74,7 +84,7 @@ module _ (lo hi : ℕ) where
       ⊎-elim
       (λ (m : hi ≤ time e).
       rw (below-not lo e es k, below-not hi e es m)
-      (filter-out (between lo hi) e es (behind lo hi e m) ∙ span-none lo hi (time e) es (a .rest) m))
+      (filter-out (between lo hi) e es (behind lo hi e m) ∙ none-behind (time e) es (a .rest) m))
       (λ (m : time e < hi).
       rw (below-not lo e es k, below-head hi e es m, sub-zero)
       (filter-in (between lo hi) e es (inside lo hi e k m) ∙ ap (λ (r : List Entry). e ∷ r) (rw (z, sub-zero) at ih)))
@@ -84,7 +94,7 @@ module _ (lo hi : ℕ) where
       (λ (m : hi ≤ time e).
       let z : 0 - suc (below lo es) ≡ 0 = omega arith in
       rw (below-head lo e es k, below-not hi e es m, z)
-      (filter-out (between lo hi) e es (before lo hi e k) ∙ span-none lo hi (time e) es (a .rest) m))
+      (filter-out (between lo hi) e es (before lo hi e k) ∙ none-behind (time e) es (a .rest) m))
       (λ (m : time e < hi).
       rw (below-head lo e es k, below-head hi e es m, suc-sub-suc) (filter-out (between lo hi) e es (before lo hi e k) ∙ ih))
       (le-or-lt hi (time e)))

@@ -31,24 +31,26 @@ first-le id (e ∷ es) (suc j) l h =
 -- ---- the last match at a time
 
 module _ (id t : ℕ) where
+  -- one entry more: it is the last so far, or it is not
+  last-either : (P : ℕ → Type 0) (k b : ℕ) (x : Entry) (es : List Entry) → (isMatch id t x ≡ true → P (lastMatch id t (k + 1) k es))
+      → (isMatch id t x ≡ false → P (lastMatch id t (k + 1) b es)) → P (lastMatch id t k b (x ∷ es))
+  last-either P k b x es hit miss =
+      ⊎-elim (λ (h : isMatch id t x ≡ true). rw (last-step id t k b x es true h) (hit h))
+      (λ (h : isMatch id t x ≡ false). rw (last-step id t k b x es false h) (miss h))
+      (true-or-false (isMatch id t x))
+
   last-ge : (k b : ℕ) (es : List Entry) → b ≤ k → b ≤ lastMatch id t k b es
   last-ge k b [] l = unfold lastMatch in omega arith
   last-ge k b (x ∷ es) l =
-      let p = last-ge (k + 1) k es (omega arith) in
-      let q = last-ge (k + 1) b es (omega arith) in
-      ⊎-elim (λ (h : isMatch id t x ≡ true). omega (arith, last-step id t k b x es true h))
-      (λ (h : isMatch id t x ≡ false). omega (arith, last-step id t k b x es false h))
-      (true-or-false (isMatch id t x))
+      last-either (λ r. b ≤ r) k b x es (λ h. omega (arith, last-ge (k + 1) k es (omega arith))) (λ h. last-ge (k + 1) b es (omega arith))
 
   last-upper : (k b : ℕ) (es : List Entry) (j : ℕ) → j < length es → isMatch id t (getD es j none) ≡ true → k + j ≤ lastMatch id t k b es
   last-upper k b [] j m h = absurd (not-suc-le-zero m)
   last-upper k b (x ∷ es) zero m h = omega (arith, last-step id t k b x es true h, last-ge (k + 1) k es (omega arith))
   last-upper k b (x ∷ es) (suc j) m h =
-      let p = last-upper (k + 1) k es j (le-of-suc-le-suc m) h in
-      let q = last-upper (k + 1) b es j (le-of-suc-le-suc m) h in
-      ⊎-elim (λ (g : isMatch id t x ≡ true). omega (arith, last-step id t k b x es true g))
-      (λ (g : isMatch id t x ≡ false). omega (arith, last-step id t k b x es false g))
-      (true-or-false (isMatch id t x))
+      let l = le-of-suc-le-suc m in
+      last-either (λ r. k + suc j ≤ r) k b x es (λ g. omega (arith, last-upper (k + 1) k es j l h))
+      (λ g. omega (arith, last-upper (k + 1) b es j l h))
 
   record Later (k r : ℕ) (es : List Entry) : Type 0 where
     from : k ≤ r
@@ -65,23 +67,20 @@ module _ (id t : ℕ) where
   last-in : (k b : ℕ) (es : List Entry) → (lastMatch id t k b es ≡ b) ⊎ Later k (lastMatch id t k b es) es
   last-in k b [] = inl (unfold lastMatch in refl)
   last-in k b (x ∷ es) =
-      ⊎-elim
-      (λ (h : isMatch id t x ≡ true).
-      let q = last-step id t k b x es true h in
+      last-either (λ r. (r ≡ b) ⊎ Later k r (x ∷ es)) k b x es
+      (λ h.
       ⊎-elim
       (λ (m : lastMatch id t (k + 1) k es ≡ k).
       let z : k - k ≡ 0 = omega arith in
-      inr (rw q (rw m (record { from = omega arith; to = omega arith; alike = rw z h }))))
-      (λ (m : Later (k + 1) (lastMatch id t (k + 1) k es) es). inr (rw q (later k _ x es m)))
+      inr (rw m (record { from = omega arith; to = omega arith; alike = rw z h })))
+      (λ (m : Later (k + 1) (lastMatch id t (k + 1) k es) es). inr (later k _ x es m))
       (last-in (k + 1) k es))
-      (λ (h : isMatch id t x ≡ false).
-      let q = last-step id t k b x es false h in
-      ⊎-elim (λ (m : lastMatch id t (k + 1) b es ≡ b). inl (q ∙ m))
-      (λ (m : Later (k + 1) (lastMatch id t (k + 1) b es) es). inr (rw q (later k _ x es m)))
+      (λ h.
+      ⊎-elim (λ (m : lastMatch id t (k + 1) b es ≡ b). inl m)
+      (λ (m : Later (k + 1) (lastMatch id t (k + 1) b es) es). inr (later k _ x es m))
       (last-in (k + 1) b es))
-      (true-or-false (isMatch id t x))
 
-  -- where there is a match, it is one that is found
+  -- where there is a match, one is found
   last-found : (k b : ℕ) (es : List Entry) (j : ℕ) → j < length es → isMatch id t (getD es j none) ≡ true → lastMatch id t k b es < k + length es
   last-found k b [] j l h = absurd (not-suc-le-zero l)
   last-found k b (x ∷ es) zero l h =
@@ -90,11 +89,9 @@ module _ (id t : ℕ) where
       (λ (m : Later (k + 1) (lastMatch id t (k + 1) k es) es). omega (arith, m .to))
       (last-in (k + 1) k es)
   last-found k b (x ∷ es) (suc j) l h =
-      let p = last-found (k + 1) k es j (le-of-suc-le-suc l) h in
-      let q = last-found (k + 1) b es j (le-of-suc-le-suc l) h in
-      ⊎-elim (λ (g : isMatch id t x ≡ true). omega (arith, last-step id t k b x es true g))
-      (λ (g : isMatch id t x ≡ false). omega (arith, last-step id t k b x es false g))
-      (true-or-false (isMatch id t x))
+      let m = le-of-suc-le-suc l in
+      last-either (λ r. r < k + length (x ∷ es)) k b x es (λ g. omega (arith, last-found (k + 1) k es j m h))
+      (λ g. omega (arith, last-found (k + 1) b es j m h))
 
 -- ---- the laws
 

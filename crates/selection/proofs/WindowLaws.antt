@@ -10,8 +10,8 @@ use Rattle.rules.proofs.Cases.{eq-or-ne, le-or-lt}
 use Rattle.table.proofs.Before.{below-head, below-le, below-none}
 use Rattle.selection.proofs.Spans.{between, filter-same, span-part}
 use Rattle.table.specs.Before.{below}
-use Rattle.selection.specs.Windows.{EndsInRange, Retrieves, endOf, firstRow, inWindow, startOf, within}
-use Rattle.time.specs.Time.{MomentInRange, far, giga, instantOf}
+use Rattle.selection.specs.Windows.{Retrieves, endOf, firstRow, inWindow, startOf, within}
+use Rattle.time.specs.Time.{far, giga, instantOf}
 use borrow.Author.Tests.{eq-eqb, le-leb, le-ltb, lt-leb, lt-ltb, ne-eqb}
 use lib.Dec.{leb, ltb}
 use lib.ListN.{drop, length, length-drop, length-take, take}
@@ -20,7 +20,6 @@ use mathlib.Core.List.{List, [], _∷_}
 use mathlib.Core.Logic.{⊎-elim}
 use mathlib.Core.Path.{_∙_, _≡_, ap, refl, sym}
 use native.Mathlib.Omega.{arith}
-use Rattle.time.specs.declared.Moment.{Moment}
 use Rattle.selection.specs.declared.MomentWindow.{MomentWindow}
 use Rattle.selection.specs.declared.MomentWindow.the-variants.{All, From, FromTo, To}
 
@@ -131,48 +130,3 @@ module _ (n : ℕ) (rows : List ℕ) (o : ordered (unpack n rows) ≡ true) (w :
       let u = length-unpack n rows in
       let z : length (inWindow w (unpack n rows)) ≡ 0 → ⊥ = λ (q : length (inWindow w (unpack n rows)) ≡ 0). omega arith in
       record { row = rw (ne-eqb (length (inWindow w (unpack n rows))) 0 z) ea; many = sym l; bound = omega arith }
-
--- ---- by cases, for an argument of which the case is known
-
-module _ (w : MomentWindow) where
-  pub ends-both : (f t : Moment) → w ≡ FromTo f t → EndsInRange w → MomentInRange f × MomentInRange t
-  ends-both f t e h = rw e at h
-
-  pub ends-from : (f : Moment) → w ≡ From f → EndsInRange w → MomentInRange f
-  ends-from f e h = rw e at h
-
-  pub ends-to : (t : Moment) → w ≡ To t → EndsInRange w → MomentInRange t
-  ends-to t e h = rw e at h
-
-  module _ (es : List Entry) where
-    pub start-all : w ≡ All → 0 ≡ startOf w es
-    unfolding startOf
-    start-all e = rw e
-
-    pub start-both : (f t : Moment) → w ≡ FromTo f t → below (instantOf f) es ≡ startOf w es
-    unfolding startOf
-    start-both f t e = rw e
-
-    pub start-from : (f : Moment) → w ≡ From f → below (instantOf f) es ≡ startOf w es
-    unfolding startOf
-    start-from f e = rw e
-
-    pub start-to : (t : Moment) → w ≡ To t → 0 ≡ startOf w es
-    unfolding startOf
-    start-to t e = rw e
-
-    pub end-all : w ≡ All → length es ≡ endOf w es
-    unfolding endOf
-    end-all e = rw e
-
-    pub end-both : (f t : Moment) → w ≡ FromTo f t → below (instantOf t + 1) es ≡ endOf w es
-    unfolding endOf
-    end-both f t e = rw e
-
-    pub end-from : (f : Moment) → w ≡ From f → length es ≡ endOf w es
-    unfolding endOf
-    end-from f e = rw e
-
-    pub end-to : (t : Moment) → w ≡ To t → below (instantOf t + 1) es ≡ endOf w es
-    unfolding endOf
-    end-to t e = rw e

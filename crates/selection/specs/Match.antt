@@ -24,13 +24,6 @@ unfoldable pub lastMatch : ℕ → ℕ → ℕ → ℕ → List Entry → ℕ
 lastMatch id t k b [] = b
 lastMatch id t k b (e ∷ es) = lastMatch id t (k + 1) (cond (isMatch id t e) k b) es
 
--- the same for an entry's own ID and time
-abbrev pub like : Entry → Entry → Bool
-like e x = isMatch (e .id) (time e) x
-
-abbrev pub lastLike : Entry → ℕ → ℕ → List Entry → ℕ
-lastLike e k b es = lastMatch (e .id) (time e) k b es
-
 -- the last match at the first one's time; past the end where there is none
 unfoldable pub victim : ℕ → List Entry → ℕ
 victim id es = lastMatch id (time (getD es (firstMatch id es) none)) 0 (length es) es

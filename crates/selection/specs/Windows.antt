@@ -2,7 +2,7 @@
 use Prim.Native.Nat.{_+_, _≤_, ℕ}
 use Rattle.rows.specs.Entries.{Entry, time, unpack}
 use Rattle.table.specs.Before.{below}
-use Rattle.time.specs.Time.{MomentInRange, instantOf}
+use Rattle.time.specs.Time.{instantOf}
 use lib.Dec.{eqb, leb}
 use lib.ListN.{length}
 use mathlib.Core.Bool.{Bool, _&&_, cond, not, true}
@@ -50,10 +50,3 @@ pub record Retrieves (w : MomentWindow) (rows : List ℕ) (count first number : 
   pub row : first ≡ firstRow w (unpack count rows)
   pub many : number ≡ length (inWindow w (unpack count rows))
   pub bound : first + number ≤ count
-
--- the ends that it has are in range
-abbrev pub EndsInRange : MomentWindow → Type 0
-EndsInRange All = Unit {0}
-EndsInRange (FromTo f t) = MomentInRange f × MomentInRange t
-EndsInRange (From f) = MomentInRange f
-EndsInRange (To t) = MomentInRange t

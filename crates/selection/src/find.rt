@@ -4,7 +4,8 @@ ghost use mathlib.Core.Path.{_≡_};
 ghost use Prim.Native.Nat.{_+_, _<_, _≤_};
 ghost use lib.ListN.{drop};
 ghost use Rattle.rows.specs.Entries.{row, unpack};
-ghost use Rattle.selection.specs.Match.{firstMatch, lastLike, like};
+ghost use Rattle.selection.specs.Inside.{lastLike, like};
+ghost use Rattle.selection.specs.Match.{firstMatch};
 ghost use Rattle.selection.specs.Match.{victim as victimOf};
 ghost use Rattle.rows.specs.Order.{Held, Sound};
 

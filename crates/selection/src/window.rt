@@ -6,7 +6,8 @@ use table::up_to;
 ghost use mathlib.Core.Path.{_≡_};
 ghost use Rattle.rows.specs.Entries.{unpack};
 ghost use Rattle.rows.specs.Order.{Sound};
-ghost use Rattle.selection.specs.Windows.{EndsInRange, Retrieves, endOf, startOf};
+ghost use Rattle.selection.specs.Inside.{EndsInRange};
+ghost use Rattle.selection.specs.Windows.{Retrieves, endOf, startOf};
 
 // The first row of the window and the number of its rows; row 0 where it has none.
 pub fn rows_in(rows: &[u64], count: usize, w: MomentWindow) -> Part

@@ -1,10 +1,11 @@
 -- Where an inserted entry stands: behind every entry that is not later, equal times in insertion order.
 -- Assumes nothing.
 use Prim.Native.Nat.{_+_, _<_, _≤_, ℕ}
-use Rattle.rows.proofs.Order.{ordered-cons, ordered-make}
+use Rattle.rows.proofs.Order.{ordered-cons}
 use Rattle.rows.specs.Entries.{Entry, time}
 use Rattle.rows.specs.Order.{ordered, orderedFrom}
 use Rattle.rules.proofs.Cases.{eq-or-ne, le-or-lt}
+use Rattle.selection.proofs.Spans.{filter-in, filter-none, filter-out}
 use Rattle.selection.specs.Match.{none}
 use Rattle.selection.specs.Windows.{filter}
 use Rattle.table.proofs.Before.{below-above, below-le, below-under}
@@ -45,18 +46,10 @@ abbrev pub ofTime : ℕ → List Entry → List Entry
 ofTime t es = filter (λ x. eqb (time x) t) es
 
 of-yes : (t : ℕ) (x : Entry) (es : List Entry) → time x ≡ t → ofTime t (x ∷ es) ≡ x ∷ ofTime t es
-unfolding filter
-of-yes t x es h = rw (eq-eqb (time x) t h)
+of-yes t x es h = filter-in _ x es (eq-eqb (time x) t h)
 
 of-no : (t : ℕ) (x : Entry) (es : List Entry) → (time x ≡ t → ⊥) → ofTime t (x ∷ es) ≡ ofTime t es
-unfolding filter
-of-no t x es h = rw (ne-eqb (time x) t h)
-
-of-later : (t u : ℕ) (es : List Entry) → orderedFrom u es ≡ true → t < u → ofTime t es ≡ []
-of-later t u [] o h = unfold filter in refl
-of-later t u (x ∷ es) o h =
-    let a = ordered-cons u x es o in
-    of-no t x es (λ (q : time x ≡ t). omega arith) ∙ of-later t (time x) es (a .rest) (omega arith)
+of-no t x es h = filter-out _ x es (ne-eqb (time x) t h)
 
 -- an inserted entry is the last of its time
 pub insert-last : (u : ℕ) (e : Entry) (es : List Entry) → orderedFrom u es ≡ true
@@ -75,7 +68,8 @@ insert-last u e (x ∷ es) o =
     (eq-or-ne (time x) (time e))))
     (λ (k : time e < time x).
     let z : ofTime (time e) (x ∷ es) ≡ []
-    = of-later (time e) (time x) (x ∷ es) (ordered-make (time x) x es (record { range = a .range; from = omega arith; rest = a .rest })) k in
+    = of-no (time e) x es (λ (q : time x ≡ time e). omega arith)
+    ∙ filter-none _ (time x) es (a .rest) (λ y l. ne-eqb (time y) (time e) (λ (q : time y ≡ time e). omega arith)) in
     rw (insert-here e x es k) (of-yes (time e) e (x ∷ es) refl ∙ rw z))
     (le-or-lt (time x) (time e))
 

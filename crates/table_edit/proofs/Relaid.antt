@@ -1,17 +1,17 @@
 -- What the words hold after a change: the entries, zeros in the rows vacated, and behind those all as it was.
 -- Assumes nothing.
 use Prim.Native.Nat.{_*_, _+_, _-_, _<_, _≤_, max, ℕ}
-use Rattle.rows.proofs.Rows.{entry≡, length-pack, past-end, relaid-at}
-use Rattle.rows.specs.Entries.{Entry, pack, relaid, row, unpack, width}
+use Rattle.rows.proofs.Rows.{entry≡, length-pack, relaid-at}
+use Rattle.rows.specs.Entries.{Entry, pack, relaid, row, width}
 use Rattle.selection.specs.Match.{none}
 use Rattle.table_edit.proofs.Words.{getD-past}
-use Rattle.table_edit.specs.Edits.{afterRemove, without}
+use Rattle.table_edit.specs.Edits.{afterRemove}
 use lib.ListN.{List·getD-append, drop, getD, getD-replicate, length, length-append, length-replicate, replicate}
 use lib.Seq.{getD-drop}
 use mathlib.Core.List.{List, [], _++_, append-assoc}
 use mathlib.Core.Path.{_∙_, _≡_, ap, refl}
-use native.Mathlib.Nat.{zero-add}
 use native.Mathlib.Omega.{arith}
+use Rattle.table_edit.proofs.Stays.{without-all}
 
 module _ (old : List ℕ) (n : ℕ) (es : List Entry) where
   -- every word behind the rows that were or are entries is as it was
@@ -46,5 +46,4 @@ module _ (old : List ℕ) (n : ℕ) (es : List Entry) where
 -- all n rows removed, as a fresh start does: zeros, and behind them all as it was
 pub remove-all : (w : List ℕ) (n : ℕ) → afterRemove w n 0 n ≡ replicate (n * width) 0 ++ drop (n * width) w
 remove-all w n =
-    let e : without 0 n (unpack n w) ≡ [] = unfold without in rw (zero-add n) (past-end n w n (omega arith)) in
-    ap (relaid w n) e ∙ relaid-at w n (n * width) (n * width) [] (omega arith) (omega arith) ∙ (unfold pack in refl)
+    ap (relaid w n) (without-all w n) ∙ relaid-at w n (n * width) (n * width) [] (omega arith) (omega arith) ∙ (unfold pack in refl)

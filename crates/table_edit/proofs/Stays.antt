@@ -2,14 +2,14 @@
 -- Assumes nothing.
 use Prim.Native.Nat.{_+_, _-_, _≤_, ℕ}
 use Rattle.rows.proofs.Order.{InRange}
-use Rattle.rows.proofs.Rows.{length-relaid, length-unpack, unpack-relaid}
+use Rattle.rows.proofs.Rows.{length-relaid, length-unpack, past-end, unpack-relaid}
 use Rattle.rows.specs.Entries.{Entry, time, unpack}
 use Rattle.rows.specs.Order.{Sound, ordered}
 use Rattle.table.proofs.Before.{below-le}
 use Rattle.table_edit.proofs.Ordering.{insert-ordered, insertSorted-at, without-ordered}
 use Rattle.table_edit.specs.Edits.{Spare, afterInsert, afterRemove, insertAt, insertSorted, without}
 use lib.ListN.{drop, length, length-append, length-drop, length-take}
-use mathlib.Core.List.{List}
+use mathlib.Core.List.{List, []}
 use mathlib.Core.Path.{_∙_, _≡_, ap}
 use native.Mathlib.Nat.{zero-add}
 use native.Mathlib.Omega.{arith}
@@ -29,24 +29,29 @@ unfolding without
 without-first m es = rw (zero-add m)
 
 module _ (w : List ℕ) (n : ℕ) where
-  inserts : (e : Entry) → length (insertSorted e (unpack n w)) ≡ n + 1
-  inserts e = rw (length-unpack n w) at (length-insertSorted e (unpack n w))
+  -- all removed, as a fresh start and `reset` do
+  pub without-all : without 0 n (unpack n w) ≡ []
+  without-all = without-first n (unpack n w) ∙ past-end n w n (omega arith)
 
-  leaves : (i m : ℕ) → i + m ≤ n → length (without i m (unpack n w)) ≡ n - m
-  leaves i m h = let l = length-unpack n w in omega (arith, length-without i m (unpack n w) (omega arith))
+  -- the number of entries afterwards
+  pub insert-number : (e : Entry) → length (insertSorted e (unpack n w)) ≡ n + 1
+  insert-number e = rw (length-unpack n w) at (length-insertSorted e (unpack n w))
+
+  pub remove-number : (i m : ℕ) → i + m ≤ n → length (without i m (unpack n w)) ≡ n - m
+  remove-number i m h = let l = length-unpack n w in omega (arith, length-without i m (unpack n w) (omega arith))
 
   -- the entries that the words hold afterwards
   pub insert-reads : (e : Entry) → unpack (n + 1) (afterInsert w n e) ≡ insertSorted e (unpack n w)
-  insert-reads e = rw (inserts e) at (unpack-relaid w n (insertSorted e (unpack n w)))
+  insert-reads e = rw (insert-number e) at (unpack-relaid w n (insertSorted e (unpack n w)))
 
   pub remove-reads : (i m : ℕ) → i + m ≤ n → unpack (n - m) (afterRemove w n i m) ≡ without i m (unpack n w)
-  remove-reads i m h = rw (leaves i m h) at (unpack-relaid w n (without i m (unpack n w)))
+  remove-reads i m h = rw (remove-number i m h) at (unpack-relaid w n (without i m (unpack n w)))
 
   pub insert-sound : (e : Entry) → Sound w n → Spare w n → InRange e → Sound (afterInsert w n e) (n + 1)
   insert-sound e s p r =
       let a = p .room in
       let b = p .few in
-      let l = inserts e in
+      let l = insert-number e in
       record {
         room = rw (length-relaid w n (insertSorted e (unpack n w)) (omega arith)) a;
         few = omega arith;
@@ -57,7 +62,7 @@ module _ (w : List ℕ) (n : ℕ) where
   remove-sound i m h s =
       let a = s .room in
       let b = s .few in
-      let l = leaves i m h in
+      let l = remove-number i m h in
       record {
         room = rw (length-relaid w n (without i m (unpack n w)) (omega arith)) (omega arith);
         few = omega arith;

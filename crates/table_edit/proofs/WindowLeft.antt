@@ -5,7 +5,7 @@ use Rattle.rows.proofs.Order.{ordered-cons}
 use Rattle.rows.specs.Entries.{Entry, time}
 use Rattle.rows.specs.Order.{ordered, orderedFrom}
 use Rattle.rules.proofs.Cases.{eq-or-ne, le-or-lt}
-use Rattle.selection.proofs.Spans.{before, behind, between, filter-in, filter-out, filter-same, inside}
+use Rattle.selection.proofs.Spans.{before, behind, between, filter-all, filter-in, filter-out, filter-same, inside}
 use Rattle.selection.proofs.WindowLaws.{end-is, high, low, start-is, window-number, within-is}
 use Rattle.selection.specs.Windows.{endOf, filter, firstRow, inWindow, outside, startOf, within}
 use Rattle.table.proofs.Before.{below-head, below-none, below-not}
@@ -28,13 +28,6 @@ module _ (lo hi : ℕ) (e : Entry) where
   pub out-of : (b : Bool) → between lo hi e ≡ b → out lo hi e ≡ not b
   unfolding out
   out-of b h = ap not h
-
-out-all : (lo hi u : ℕ) (es : List Entry) → orderedFrom u es ≡ true → hi ≤ u → filter (out lo hi) es ≡ es
-out-all lo hi u [] o h = unfold filter in refl
-out-all lo hi u (e ∷ es) o h =
-    let a = ordered-cons u e es o in
-    filter-in (out lo hi) e es (out-of lo hi e false (behind lo hi e (omega arith)))
-    ∙ ap (λ (r : List Entry). e ∷ r) (out-all lo hi (time e) es (a .rest) (omega arith))
 
 -- ---- a range removed, one step
 
@@ -62,7 +55,8 @@ module _ (lo hi : ℕ) where
       let all : hi ≤ time e → filter (out lo hi) (e ∷ es) ≡ e ∷ es
       = λ (m : hi ≤ time e).
       filter-in (out lo hi) e es (out-of lo hi e false (behind lo hi e m))
-      ∙ ap (λ (r : List Entry). e ∷ r) (out-all lo hi (time e) es (a .rest) m) in
+      ∙ ap (λ (r : List Entry). e ∷ r)
+      (filter-all (out lo hi) (time e) es (a .rest) (λ x k. out-of lo hi x false (behind lo hi x (omega arith)))) in
       ⊎-elim
       (λ (k : lo ≤ time e).
       let z : below lo es ≡ 0 = below-none lo (time e) es (a .rest) k in

@@ -19,6 +19,7 @@ stores w b e = set (set (set (set w b (e .secs)) (b + 1) (e .nanos)) (b + 2) (e 
 stored : (w : List ℕ) (b : ℕ) (e : Entry) → b + width ≤ length w → stores w b e ≡ take b w ++ words e ++ drop (b + width) w
 stored w b e h = simp (add-one, add-two, add-three) (sets-eq (words e) w b h)
 
+-- the rows from `at` on moved up, and an entry stored in the gap
 pub inserted : (w : List ℕ) (n at : ℕ) (e : Entry) → at ≤ n → (n + 1) * width ≤ length w
     → stores (moved w (at * width + width) (at * width) ((n - at) * width)) (at * width) e ≡ relaid w n (insertAt at e (unpack n w))
 unfolding moved pack insertAt
@@ -49,6 +50,7 @@ inserted w n at e h l =
     ∙ reg
     ∙ sym (relaid-at w n 0 (b + width + m) _ z (sym r) ∙ ap (λ (x : List ℕ). x ++ [] ++ R) p)
 
+-- the rows behind m of them moved down, and those vacated cleared
 pub removed : (w : List ℕ) (n f m : ℕ) → f + m ≤ n → n * width ≤ length w
     → cleared (moved w (f * width) ((f + m) * width) ((n - f - m) * width)) (f * width + (n - f - m) * width) (m * width)
     ≡ relaid w n (without f m (unpack n w))
@@ -75,7 +77,7 @@ removed w n f m h l =
     ∙ ap (λ (x : List ℕ). pack (take f es ++ drop (f + m) es) ++ replicate (m * width) 0 ++ x) e2
     ∙ sym (relaid-at w n (m * width) (n * width) _ (omega arith) (omega arith))
 
--- step by step
+-- the same, by what each of the two leaves makes of the words
 pub removes : (w x y : List ℕ) (n f m : ℕ) → f + m ≤ n → n * width ≤ length w → x ≡ moved w (f * width) ((f + m) * width) ((n - f - m) * width)
     → y ≡ cleared x (f * width + (n - f - m) * width) (m * width) → y ≡ afterRemove w n f m
 removes w x y n f m h l p q = q ∙ ap (λ (v : List ℕ). cleared v (f * width + (n - f - m) * width) (m * width)) p ∙ removed w n f m h l

@@ -4,7 +4,7 @@ use mathlib.Core.List.{[]}
 use mathlib.Core.Path.{_≡_}
 use Rattle.record.specs.Refusals.{paper}
 use Rattle.rules.specs.Papers.{Outcome, done, refused}
-use Rattle.selection.specs.Windows.{EndsInRange}
+use Rattle.selection.specs.Inside.{EndsInRange}
 use Rattle.selection.specs.declared.MomentWindow.{MomentWindow}
 use Rattle.windows.specs.Windowing.{windowed}
 use Rattle.windows.specs.declared.Opened.{Opened}

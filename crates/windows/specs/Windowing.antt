@@ -27,12 +27,14 @@ forward (FromTo f t) = leb (instant f) (instant t)
 forward (From f) = true
 forward (To t) = true
 
+-- the window in moments
 unfoldable pub windowOf : TimeWindow → MomentWindow
 windowOf All = T.All
 windowOf (FromTo f t) = T.FromTo (momentOf f) (momentOf t)
 windowOf (From f) = T.From (momentOf f)
 windowOf (To t) = T.To (momentOf t)
 
+-- 4, then 15, then what the call comes to with the window in moments
 unfoldable pub windowed : {A : Type 0} → TimeWindow → (MomentWindow → Outcome A) → Outcome A
 windowed w call = unless (endsInRange w) (refused (no 4 [])) (unless (forward w) (refused (no 15 [])) (call (windowOf w)))
 

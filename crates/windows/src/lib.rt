@@ -1,4 +1,4 @@
-// Windows of time given as arguments (document 01, module 5): 4 for an end out of range, 15 for a start after the end, and then the window in moments.
+// Windows of time given as arguments (document 01, module 5): 4 for an end out of range, 15 for a start after the end, then the window in moments.
 use record::ScheduleRefusal;
 use selection::MomentWindow;
 use selection::Part;
@@ -7,7 +7,7 @@ ghost use mathlib.Core.Path.{_≡_};
 ghost use mathlib.Core.Bool.{_&&_, true};
 ghost use lib.Dec.{leb};
 ghost use Rattle.time.specs.Time.{InRange, instant};
-ghost use Rattle.selection.specs.Windows.{EndsInRange};
+ghost use Rattle.selection.specs.Inside.{EndsInRange};
 ghost use Rattle.windows.specs.Inside.{Opens};
 ghost use Rattle.windows.specs.Windowing.{endsInRange, forward as forwardOf, windowOf};
 

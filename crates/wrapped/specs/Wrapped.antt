@@ -15,11 +15,12 @@ use Rattle.stamp.specs.declared.Stamp.the-variants.{At, Refused}
 use Rattle.schedule.specs.State.{State}
 use Rattle.schedule.specs.declared.Setup.{Setup}
 
--- the outer packet is opened (9, 5, 6, 7); its user data is a stamp (8) and the command
+-- user data is a stamp (8) and the command
 unfoldable pub stamped : Setup → List ℕ → State → Stamp → Outcome State
 stamped su d s Refused = refused (no 8 [])
 stamped su d s (At t n) = insertTc su t (drop n d) s
 
+-- the outer packet is opened: 9, 5, 6, 7
 unfoldable pub opened : Setup → List ℕ → State → Reading → Outcome State
 opened su d s (Unreadable f) = refused (no 9 [])
 opened su d s (Packet h) =

@@ -9,10 +9,10 @@ use Rattle.gate.proofs.Gates.{full, late}
 use Rattle.gate.proofs.gate.Statement.{statement}
 use Rattle.gate.proofs.gate.Tie as tie
 
-timely : (c : tie.Else1)
+not-late : (c : tie.Else1)
     → inTimeMargin (c .before .before .before .before .args .rec .clock) (c .before .before .before .before .args .rec .margin)
     (c .before .before .before .before .args .release) ≡ false
-timely c = sym (c .before .in-time-margin .ensures) ∙ c .if1 .left
+not-late c = sym (c .before .in-time-margin .ensures) ∙ c .if1 .left
 
 returns : tie.Need-returns
 returns c =
@@ -23,10 +23,10 @@ returns-2 : tie.Need-returns-2
 returns-2 c =
     let e = c .before .before .before in
     let a = e .before .before .before .before .args in
-    full (a .setup) (a .rec) (a .release) (timely e) (omega (arith, c .if2 .taken))
+    full (a .setup) (a .rec) (a .release) (not-late e) (omega (arith, c .if2 .taken))
 
 returns-3 : tie.Need-returns-3
-returns-3 c = (timely (c .before .before .before), omega (arith, c .if2 .left))
+returns-3 c = (not-late (c .before .before .before), omega (arith, c .if2 .left))
 
 pub gate-spec : {M : Type 1} → statement M
 gate-spec = tie.close (tie.spec (λ c κs. search needs) returns returns-2 returns-3)

@@ -1,7 +1,8 @@
 -- `windows::moments` meets its contract.
 -- Assumes nothing.
 use borrow.Author.Needs.{needs}
-use Rattle.windows.proofs.Openings.{both-judged, from-judged, moments-all, moments-both, moments-from, moments-to, to-judged}
+use Rattle.windows.proofs.Openings.{both-judged, from-judged, to-judged}
+use Rattle.windows.specs.Windowing.{windowOf}
 use Rattle.windows.proofs.moments.Statement.{statement}
 use Rattle.windows.proofs.moments.Tie as tie
 
@@ -18,23 +19,33 @@ to-moment-requires-4 : tie.Need-to-moment-requires-4
 to-moment-requires-4 c κs = to-judged _ _ (c .before .w3 .given .1) (c .before .before .before .pre)
 
 returns : tie.Need-returns
-returns c = moments-all _ (c .enum-told .given .1)
+unfolding windowOf
+returns c = (rw (c .enum-told .given .1), tt)
 
 returns-2 : tie.Need-returns-2
+unfolding windowOf
 returns-2 c =
     let w = c .before .before .before in
     let i = both-judged _ _ _ (w .w .given .1) (w .before .before .pre) in
-    moments-both _ _ _ _ _ (w .w .given .1) (c .before .to-moment .ensures) (c .to-moment2 .ensures) (i .0) (i .1)
+    let p = c .before .to-moment .ensures in
+    let q = c .to-moment2 .ensures in
+    (rw (w .w .given .1, p, q), (rw p (record { nanos = i .0 .nanos }), rw q (record { nanos = i .1 .nanos })))
 
 returns-3 : tie.Need-returns-3
+unfolding windowOf
 returns-3 c =
     let w = c .before .before in
-    moments-from _ _ _ (w .w2 .given .1) (c .to-moment3 .ensures) (from-judged _ _ (w .w2 .given .1) (w .before .before .pre))
+    let i = from-judged _ _ (w .w2 .given .1) (w .before .before .pre) in
+    let p = c .to-moment3 .ensures in
+    (rw (w .w2 .given .1, p), rw p (record { nanos = i .nanos }))
 
 returns-4 : tie.Need-returns-4
+unfolding windowOf
 returns-4 c =
     let w = c .before .before in
-    moments-to _ _ _ (w .w3 .given .1) (c .to-moment4 .ensures) (to-judged _ _ (w .w3 .given .1) (w .before .before .pre))
+    let i = to-judged _ _ (w .w3 .given .1) (w .before .before .pre) in
+    let p = c .to-moment4 .ensures in
+    (rw (w .w3 .given .1, p), rw p (record { nanos = i .nanos }))
 
 pub moments-spec : {M : Type 1} → statement M
 moments-spec =

@@ -3,7 +3,7 @@
 use native.Mathlib.Omega.{arith}
 use borrow.Author.Needs.{needs}
 use Rattle.by_id.specs.Answers.{freedPaper}
-use Rattle.schedule.proofs.Facts.{facts, table-sound}
+use Rattle.schedule.proofs.Facts.{facts, table-held, table-sound}
 use Rattle.by_id.proofs.Taking.{free-done, free-none}
 use Rattle.by_id.proofs.judged.delete_by_request_id_and_from_pool.Statement.{statement}
 use Rattle.by_id.proofs.judged.delete_by_request_id_and_from_pool.Tie as tie
@@ -24,15 +24,13 @@ tc-info-requires : tie.Need-tc-info-requires
 tc-info-requires c κs =
     let e = c .before in
     let s = e .before .before .before .before .before .before in
-    let t = table-sound (facts (s .pre)) in
-    (record { room = t .room }, e .if1 .left)
+    (table-held (facts (s .pre)), e .if1 .left)
 
 remove-requires : tie.Need-remove-requires
 remove-requires c κs =
     let e = c .before .before .before in
     let s = e .before .before .before .before .before .before in
-    let t = table-sound (facts (s .pre)) in
-    (record { room = t .room }, omega (arith, e .if1 .left))
+    (table-held (facts (s .pre)), omega (arith, e .if1 .left))
 
 delete-requires : tie.Need-delete-requires
 delete-requires c κs =

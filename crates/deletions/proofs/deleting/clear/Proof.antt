@@ -2,7 +2,7 @@
 -- Assumes nothing.
 use borrow.Author.Needs.{needs}
 use Rattle.deletions.proofs.Clearing.{clear-done}
-use Rattle.schedule.proofs.Facts.{facts, table-sound}
+use Rattle.schedule.proofs.Facts.{facts, table-sound, table-held}
 use Rattle.deletions.proofs.deleting.clear.Statement.{statement}
 use Rattle.deletions.proofs.deleting.clear.Tie as tie
 
@@ -15,7 +15,7 @@ sweep-requires c κs =
 remove-requires : tie.Need-remove-requires
 remove-requires c κs =
     let s = c .before .before .before .before .before .before .before .before .before .before .before .before .before in
-    (record { room = table-sound (facts (s .pre .0)) .room }, s .pre .1)
+    (table-held (facts (s .pre .0)), s .pre .1)
 
 returns : tie.Need-returns
 returns c =

@@ -1,15 +1,14 @@
 -- `deletions::sweep::one_more` meets its contract.
 -- Assumes nothing.
 use borrow.Author.Needs.{needs}
-use Rattle.deletions.proofs.Sweeping.{counted-done, counted-missing}
 use Rattle.deletions.proofs.sweep.one_more.Statement.{statement}
 use Rattle.deletions.proofs.sweep.one_more.Tie as tie
 
 returns : tie.Need-returns
-returns c = counted-done _ _ (c .before .enum-told .given .1)
+returns c = rw (c .before .enum-told .given .1)
 
 returns-2 : tie.Need-returns-2
-returns-2 c = counted-missing _ _ _ (c .before .before .d .given .1)
+returns-2 c = rw (c .before .before .d .given .1)
 
 pub one-more-spec : {M : Type 1} → statement M
 one-more-spec =

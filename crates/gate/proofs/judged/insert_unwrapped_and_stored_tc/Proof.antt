@@ -10,7 +10,8 @@ use Rattle.rows.specs.Entries.{entryOf}
 use Rattle.time.proofs.Judged.{time-judged}
 use Rattle.time.specs.Time.{inRange}
 use Rattle.time.specs.declared.Moment.{Moment}
-use Rattle.gate.proofs.Storing.{gate-fine, spare, stored-bad, stored-done, stored-refused}
+use Rattle.gate.proofs.Gates.{gate-fine, spare}
+use Rattle.gate.proofs.Storing.{stored-bad, stored-done, stored-refused}
 use Rattle.schedule.proofs.Facts.{facts, table-sound}
 use Rattle.gate.proofs.judged.insert_unwrapped_and_stored_tc.Statement.{statement}
 use Rattle.gate.proofs.judged.insert_unwrapped_and_stored_tc.Tie as tie

@@ -7,7 +7,7 @@ use Rattle.packet.specs.Packet.{idWord}
 use Rattle.insertions.specs.Answers.{insertedPaper}
 use Rattle.insertions.specs.Inserting.{nested}
 use Rattle.insertions.proofs.Activities.{does-blocked, does-nested, does-plain}
-use Rattle.gate.proofs.Storing.{gate-fine}
+use Rattle.gate.proofs.Gates.{gate-fine}
 use Rattle.schedule.proofs.Facts.{facts}
 use Rattle.insertions.proofs.inserting.insert_readable.Statement.{statement}
 use Rattle.insertions.proofs.inserting.insert_readable.Tie as tie

@@ -9,7 +9,7 @@ use Rattle.rows.specs.Entries.{entryOf}
 use Rattle.time.specs.declared.Moment.{Moment}
 use Rattle.insertions.specs.Answers.{insertedPaper}
 use Rattle.insertions.proofs.Adding.{enter-done, enter-refused}
-use Rattle.gate.proofs.Storing.{spare}
+use Rattle.gate.proofs.Gates.{spare}
 use Rattle.schedule.proofs.Facts.{facts, table-sound}
 use Rattle.insertions.proofs.inserting.store_and_enter.Statement.{statement}
 use Rattle.insertions.proofs.inserting.store_and_enter.Tie as tie

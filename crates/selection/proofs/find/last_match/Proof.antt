@@ -3,7 +3,7 @@
 use Prim.Native.Nat.{_+_, _-_, _<_, _≤_, ℕ}
 use Rattle.rows.specs.Entries.{Entry, row, time, unpack}
 use Rattle.selection.proofs.Matches.{last-end, last-go}
-use Rattle.selection.specs.Match.{lastLike}
+use Rattle.selection.specs.Inside.{lastLike}
 use lib.ListN.{drop}
 use mathlib.Core.Bool.{cond}
 use mathlib.Core.Logic.{⊎-elim}
