@@ -7,7 +7,7 @@ use Rattle.slots.specs.Pools.{Pool, find}
 use Rattle.table.proofs.Before.{below-head, below-not}
 use Rattle.rows.specs.Entries.{Entry, time}
 use Rattle.turn.specs.Turns.{Handout, handed, handout, need, put, stop}
-use Rattle.turns_laws.proofs.Room.{either, fitting-le}
+use Rattle.turns_laws.proofs.Fitting.{either, fitting-le}
 use Rattle.turns_laws.proofs.Due.{below-drop}
 use Rattle.turns_laws.specs.Due.{due}
 use Rattle.handing.specs.Handing.{afterAll, turns}
