@@ -8,7 +8,8 @@ use Rattle.schedule.proofs.Facts.{facts}
 use Rattle.schedule.specs.Judge.{Sound}
 use Rattle.schedule.specs.State.{State, stateOf, withEntries, withPools}
 use Rattle.schedule.specs.declared.Setup.{Setup}
-use Rattle.scheduler.specs.Steps.{Answer, Request, run, step, tick, ticked}
+use Rattle.scheduler.specs.Laws.{AllAmple, AllDone, ticks}
+use Rattle.scheduler.specs.Steps.{run, step, tick, ticked}
 use Rattle.slots.specs.Pools.{Pool}
 use Rattle.rows.specs.Entries.{Entry}
 use Rattle.tick.proofs.Lacking.{hands-out, lack-fits, lack-none}
@@ -28,21 +29,6 @@ use mathlib.Core.List.{List, [], _∷_}
 use mathlib.Core.Path.{_∙_, _≡_, ap, refl}
 use native.Mathlib.Nat.{mul-le-mul-right}
 use native.Mathlib.Omega.{arith}
-
--- a tick for each log that is lent
-abbrev pub ticks : ℕ → Bool → List (List ℕ) → List Request
-ticks k del [] = []
-ticks k del (log ∷ logs) = tick k del log ∷ ticks k del logs
-
--- the used part of each has room for k records with packets of `big` bytes
-abbrev pub AllAmple : ℕ → ℕ → List (List ℕ) → Type 0
-AllAmple k big [] = Unit {0}
-AllAmple k big (log ∷ logs) = (roomFor k big ≤ usable log) × AllAmple k big logs
-
--- none is a refusal
-abbrev pub AllDone : List Answer → Type 0
-AllDone [] = Unit {0}
-AllDone (a ∷ rest) = (a .paper .number ≡ 0) × AllDone rest
 
 module _ (su : Setup) (big k : ℕ) (del : Bool) (some : 1 ≤ k) where
   first-small : (es : List Entry) (ps : List Pool) → Short big ps → firstTotal es ps ≤ 29 + big

@@ -14,10 +14,11 @@ use Rattle.turn.specs.Turns.{Handout, handed, handout, leave, need}
 use Rattle.turns_laws.proofs.Due.{below-drop, due-is}
 use Rattle.turns_laws.proofs.Packets.{Short, short-leave, short-need, sound-short}
 use Rattle.turns_laws.proofs.Fitting.{either}
-use Rattle.turns_laws.proofs.Split.{Splits, left-due, many, splits}
+use Rattle.turns_laws.proofs.Split.{left-due, many, splits}
 use Rattle.turns_laws.specs.Draining.{drained, followedBy, largestSlot, roomFor, roundedUp}
 use Rattle.turns_laws.specs.Due.{due, dueCount}
 use Rattle.handing.specs.Handing.{afterAll, turns}
+use Rattle.turns_laws.specs.Laws.{Splits}
 use borrow.Author.Tests.{le-leb}
 use lib.ListN.{drop, length, length-take, take}
 use lib.Seq.{drop-drop, take-add}

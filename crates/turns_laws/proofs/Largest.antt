@@ -13,6 +13,7 @@ use Rattle.turns_laws.proofs.Fitting.{fitting-holds, fitting-le}
 use Rattle.turns_laws.proofs.Split.{at-most, many}
 use Rattle.turns_laws.specs.Due.{due}
 use Rattle.handing.specs.Handing.{turns}
+use Rattle.turns_laws.specs.Laws.{Largest}
 use borrow.Author.Tests.{le-leb}
 use lib.ListN.{length, length-take, take}
 use lib.Seq.{take-take}
@@ -21,14 +22,6 @@ use mathlib.Core.List.{List, [], _∷_}
 use mathlib.Core.Path.{_∙_, _≡_}
 use native.Mathlib.Nat.{le-of-suc-le-suc, not-suc-le-zero}
 use native.Mathlib.Omega.{arith}
-
--- the first m are due and allowed, and a log of their records fits; of no larger number is all of that so
-pub record Largest (after : List Pool → ℕ → List Pool) (on : Entry → Bool) (ck limit cap : ℕ) (es : List Entry) (ps : List Pool) (m : ℕ)
-    : Type 0 where
-  pub allowed : m ≤ limit
-  pub are-due : m ≤ due ck es
-  pub fits : total (turns after on (take m es) ps) ≤ cap
-  pub most : (k : ℕ) → k ≤ limit → k ≤ due ck es → total (turns after on (take k es) ps) ≤ cap → k ≤ m
 
 -- a number whose log fits is at most the number that fits
 fitting-most : (after : List Pool → ℕ → List Pool) (on : Entry → Bool) (used cap : ℕ) (es : List Entry) (ps : List Pool) (j : ℕ) → j ≤ length es
