@@ -69,13 +69,13 @@ module _ (su : Setup) (t : Lent) (x : Answer) (u : Lent) (s : Fine su t) where
       → Follows su q t x u
   unfolding looked
   looks q call e c =
-      unchanged q (c .lent) (rw e (rw (judging-fine su (t .rec) (t .store) (t .lens) (t .rows) call s) at (c .answer))) (rw e (c .buffer)) (rw e)
+      unchanged q (c .lent) (rw e (c .answer ∙ ap says (judging-fine su (t .rec) (t .store) (t .lens) (t .rows) call s))) (rw e (c .buffer)) (rw e)
 
   store-looks : (q : Request) (call : List Pool → Outcome (Unit {0})) → ((z : State) → step su q z ≡ looked z (call (z .pools)) [])
       → StoreLooks su t x u call → Follows su q t x u
   unfolding looked stateOf
   store-looks q call e c =
-      unchanged q (c .lent) (rw e (rw (store-judging-fine (su .store) (t .store) (t .lens) call (facts s .store)) at (c .answer))) (rw e (c .buffer))
+      unchanged q (c .lent) (rw e (c .answer ∙ ap says (store-judging-fine (su .store) (t .store) (t .lens) call (facts s .store)))) (rw e (c .buffer))
       (rw e)
 
   reads : (a : ℕ) (buf : List ℕ) → ReadsInto su t x u a buf → Follows su (read a buf) t x u

@@ -117,10 +117,6 @@ own-len ps a = own-named a (find ps a) _ _ tt (λ n b. tt)
 
 -- ---- insertions
 
-pub own-count : (s : State) → Own (countIn s)
-unfolding countIn
-own-count s = tt
-
 module _ (su : Setup) where
   own-enter : (t : UnixTime) (id a : ℕ) (vs : List ℕ) (s : State) → Own (enter su t id a vs s)
   unfolding enter
@@ -166,7 +162,11 @@ module _ (su : Setup) where
   unfolding insertWrappedIn
   own-wrapped p s = own-opened (userDataOf 2 p) s (readOf 2 p)
 
--- ---- windows, deletions, the tick
+-- ---- count, windows, deletions, the tick
+
+pub own-count : (s : State) → Own (countIn s)
+unfolding countIn
+own-count s = tt
 
 own-windowed : {A : Type 0} (w : TimeWindow) (call : MomentWindow → Outcome A) → ((v : MomentWindow) → Own (call v)) → Own (windowed w call)
 unfolding windowed
