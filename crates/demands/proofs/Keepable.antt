@@ -1,4 +1,5 @@
 -- Each call has a result that its promise allows, whatever is lent.
+use Prim.Native.Nat.{ℕ}
 use Rattle.deletions.specs.Deleting.{deleteWindowIn, resetIn}
 use Rattle.by_id.specs.ById.{deleteByIdIn, deleteKeepingIn}
 use Rattle.windows.specs.Windowing.{retrieveIn}
@@ -34,14 +35,14 @@ abbrev plain : Paper → Answer
 plain p = record { paper = p; buffer = [] }
 
 module _ (su : Setup) (t : Lent) where
-  -- what an outcome leaves of what is lent
-  abbrev leaves : Outcome State → Lent
-  leaves o =
+  -- what an outcome leaves of what is lent, of whose rows the first k held entries
+  abbrev leaves : ℕ → Outcome State → Lent
+  leaves k o =
       record {
         rec = after o (t .rec) recordOf;
         store = after o (t .store) (λ s. storeWith (su .store) (t .store) (s .pools));
         lens = after o (t .lens) (λ s. lensWith (su .store) (t .lens) (s .pools));
-        rows = after o (t .rows) (λ s. relaid (t .rows) (t .rec .count) (s .entries));
+        rows = after o (t .rows) (λ s. relaid (t .rows) k (s .entries));
       }
 
   abbrev judged : {A : Type 0} → (State → Outcome A) → Outcome A
@@ -50,7 +51,7 @@ module _ (su : Setup) (t : Lent) where
   abbrev storeJudged : {A : Type 0} → (List Pool → Outcome A) → Outcome A
   storeJudged call = storeJudging (su .store) (t .store) (t .lens) call
 
-  changes : (call : State → Outcome State) → ScheduleChanges su t (plain (says (judged call))) (leaves (judged call)) call
+  changes : (call : State → Outcome State) → ScheduleChanges su t (plain (says (judged call))) (leaves (t .rec .count) (judged call)) call
   changes call = record { tables = record { answer = refl; next = refl; store = refl; lens = refl; rows = refl }; buffer = refl }
 
   looks : (call : State → Outcome (Unit {0})) → ScheduleLooks su t (plain (says (judged call))) t call
@@ -81,13 +82,7 @@ module _ (su : Setup) (t : Lent) where
       let o : Outcome State = startIn su (length (t .store)) (length (t .lens)) (length (t .rows)) clock margin in
       record {
         answer = plain (says o);
-        left =
-            record {
-              rec = after o (t .rec) recordOf;
-              store = after o (t .store) (λ s. storeWith (su .store) (t .store) (s .pools));
-              lens = after o (t .lens) (λ s. lensWith (su .store) (t .lens) (s .pools));
-              rows = after o (t .rows) (λ s. relaid (t .rows) (su .entries) (s .entries));
-            };
+        left = leaves (su .entries) o;
         call = record { tables = record { answer = refl; next = refl; store = refl; lens = refl; rows = refl }; buffer = refl };
       }
 
@@ -126,7 +121,7 @@ module _ (su : Setup) (t : Lent) where
       let o : Outcome Logged = judged (tickIn limit del log) in
       record {
         answer = record { paper = says (left o); buffer = after o log (λ x. x .log) };
-        left = leaves (left o);
+        left = leaves (t .rec .count) (left o);
         call =
             record {
               tables = record { tables = record { answer = refl; next = refl; store = refl; lens = refl; rows = refl }; log = refl };

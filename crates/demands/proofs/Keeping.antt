@@ -1,5 +1,6 @@
 -- Demand 1, for every call and anything lent, sound or not: every answer has a number of the table, and a refusal changes nothing that is lent.
 use Prim.Native.Nat.{_≤_, ℕ}
+use Rattle.demands.proofs.Parts.{same-lent}
 use Rattle.demands.specs.Calling.{Calls, ScheduleChanges, Lent, ScheduleLooks, RecordChanges, Modifies, Promised, ReadsInto, StartsOver, StoreChanges, StoreLooks, TicksOver, freshStart, lentTo, request}
 use Rattle.demands.specs.Demands.{EveryCallAnswers}
 use Rattle.record.specs.declared.Record.{Record}
@@ -13,7 +14,7 @@ use Rattle.schedule.specs.declared.Setup.{Setup}
 use Rattle.scheduler.proofs.Numbers.{Own, clock-numbered, judged-most, mark-numbered, own-add, own-by-id, own-count, own-delete, own-has, own-keeping, own-len, own-packet, own-read, own-reset, own-retrieve, own-stored, own-tick, own-unless, own-unwrapped, own-window, own-wrapped}
 use Rattle.scheduler.proofs.RefusalKeeps.{call-keeps}
 use Rattle.scheduler.proofs.Releasing.{tick-keeps}
-use Rattle.scheduler.specs.Laws.{AnsweredOrRefused, Same}
+use Rattle.scheduler.specs.Laws.{AnsweredOrRefused}
 use Rattle.scheduler.specs.Steps.{Answer, Request, add, bufferOf, count, delete, deleteById, deleteKeeping, deleteWindow, disable, enable, hasElementAt, insertStored, insertUnwrapped, insertWrapped, lenOfData, modify, read, reset, retrieve, setClock, tick}
 use Rattle.lookup.specs.Calls.{judging as storeJudging, packetIn, readIn}
 use Rattle.layout.specs.Judge.{judged}
@@ -50,22 +51,19 @@ module _ (su : Setup) (t : Lent) (x : Answer) (u : Lent) where
 
   -- the fresh start gives 1, 2 and 4
   own-start : (b : Bool) (s : State) → Own (unless b (refused (no 4 [])) (done [] s))
-  own-start b s = own-unless b (no 4 []) (done [] s) (omega arith) (omega arith) tt
+  own-start b s = own-unless b (refused (no 4 [])) (done [] s) (omega arith, omega arith) tt
 
   start-most : (room lens rows : ℕ) (c : UnixTime) (m : Margin) → says (startIn su room lens rows c m) .number ≤ 20
   unfolding startIn judgedBy unless
   start-most room lens rows c m = judged-most (setupOk su) (buffersOk su room lens rows) true _
       (own-start (inRange c && marginInRange m) (freshState su c m))
 
-  same : Same (t .rec) (u .rec) (t .store) (u .store) (t .lens) (u .lens) (t .rows) (u .rows) → u ≡ t
-  same k = λ i. record { rec = k .record-is i; store = k .store-is i; lens = k .lens-is i; rows = k .rows-is i }
-
   starts : (c : UnixTime) (m : Margin) → StartsOver su t x u c m → AnsweredOrRefused [] x t u
   starts k m c =
       record {
         in-table = most _ (c .tables .answer) (start-most _ _ _ k m);
         kept = λ above. (
-          same (call-keeps su _ _ _ _ _ _ _ _ _ above _ (c .tables)),
+          same-lent t u (call-keeps su _ _ _ _ _ _ _ _ _ above _ (c .tables)),
           c .buffer,
         );
       }
@@ -75,7 +73,7 @@ module _ (su : Setup) (t : Lent) (x : Answer) (u : Lent) where
       record {
         in-table = most _ (c .tables .answer) (judging-most call h);
         kept = λ above. (
-          same (call-keeps su _ _ _ _ _ _ _ _ _ above _ (c .tables)),
+          same-lent t u (call-keeps su _ _ _ _ _ _ _ _ _ above _ (c .tables)),
           c .buffer,
         );
       }
@@ -88,7 +86,7 @@ module _ (su : Setup) (t : Lent) (x : Answer) (u : Lent) where
             let k =
             tick-keeps su (t .rec) (t .store) (t .lens) (t .rows) log limit del (x .paper) (u .rec) (u .store) (u .lens) (u .rows) (x .buffer)
             (c .tables) above in
-            (same (k .0), k .1);
+            (same-lent t u (k .0), k .1);
       }
 
   looks : (call : State → Outcome (Unit {0})) → ((s : State) → Own (call s)) → ScheduleLooks su t x u call → AnsweredOrRefused [] x t u
@@ -114,7 +112,7 @@ module _ (su : Setup) (t : Lent) (x : Answer) (u : Lent) where
         in-table = most o (c .tables .answer) (store-most call h);
         kept = λ above.
             let m = refuses o (c .tables .answer) above in (
-              same
+              same-lent t u
                   (record {
                     record-is = c .rec;
                     store-is = c .tables .store ∙ refusal-keeps o (t .store) (storeWith (su .store) (t .store)) m;

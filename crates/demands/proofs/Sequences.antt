@@ -1,5 +1,4 @@
 -- Calls one after another from a fresh start: they answer as the definitions say, none is damaged, and room changes no answer.
-use Rattle.demands.proofs.Agreeing.{same-cons}
 use Rattle.demands.proofs.Following.{Fine, calls-follow, stands}
 use Rattle.demands.specs.Calling.{Begins, Lent, Runs}
 use Rattle.demands.specs.Demands.{AsTheModel, NeverDamaged, NoneDamaged, RoomChangesNoAnswer, SameAsTheModel}
@@ -18,7 +17,7 @@ use Rattle.time.specs.declared.Margin.{Margin}
 use Rattle.time.specs.declared.UnixTime.{UnixTime}
 use mathlib.Core.Bool.{Bool, cond, false, true}
 use mathlib.Core.List.{List, [], _∷_}
-use mathlib.Core.Path.{_∙_, _≡_, ap, refl, subst, sym}
+use mathlib.Core.Path.{_∙_, _≡_, ap, ap₂, refl, subst, sym}
 use native.Mathlib.Omega.{arith}
 
 runs-follow : (su : Setup) (qs : List Request) (t : Lent) (xs : List Answer) (u : Lent) → AllOfBytes qs → Fine su t → Runs su qs t xs u
@@ -31,7 +30,7 @@ runs-follow su (q ∷ qs) t (x ∷ xs) u o s r =
     let f = calls-follow su t x (r .left) s q (o .0) (r .call) in
     let h = runs-follow su qs (r .left) xs u (o .1) (f .sound) (r .others) in
     record {
-      answers = same-cons x _ xs _ (f .answer) (h .answers ∙ ap (λ (z : State). run su qs z .answers) (f .state));
+      answers = ap₂ _∷_ (f .answer) (h .answers ∙ ap (λ (z : State). run su qs z .answers) (f .state));
       state = h .state ∙ ap (λ (z : State). run su qs z .state) (f .state);
     }
 

@@ -47,11 +47,6 @@ all-none : (after : List Pool → ℕ → List Pool) (ps : List Pool) → afterA
 unfolding afterAll
 all-none after ps = refl
 
--- the log without records is its count and total; a log's total is at least where its records start
-total-is : (rs : List LogRecord) → total rs ≡ 8 + 4 * length rs + length (records rs)
-unfolding total
-total-is rs = refl
-
 no-records : length (records []) ≡ 0
 unfolding records
 no-records = refl
@@ -83,7 +78,8 @@ module _ (su : Setup) (st₀ le₀ log₀ w : List ℕ) (m : ℕ) (del on : Bool
   length-all = length-turns (leave del) (always on) (unpack m w) (view su st₀ le₀) ∙ length-unpack m w
 
   total-all : total all ≡ 8 + 4 * m + length (records all)
-  total-all = omega (arith, total-is all, length-all)
+  unfolding total
+  total-all = omega (arith, length-all)
 
   pub turning-start : Roomy del on (unpack m w) (view su st₀ le₀) log₀ → 8 + 4 * m ≤ maxLogBytes
   turning-start r = omega (arith, r .small, total-all)

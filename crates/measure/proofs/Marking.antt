@@ -4,8 +4,8 @@ use Prim.Native.Nat.{_+_, _<_, _≤_, ℕ}
 use Rattle.measure.specs.Inside.{Marked, added, marking, standing}
 use Rattle.rules.proofs.All.{all-each}
 use Rattle.rules.specs.Tests.{allOf, unless}
-use Rattle.rules.proofs.Cases.{eq-or-ne}
-use borrow.Author.Tests.{le-ltb, lt-ltb, ltb-false, ltb-true}
+use Rattle.rules.proofs.Cases.{eq-or-ne, le-or-lt}
+use borrow.Author.Tests.{le-ltb, lt-ltb, ltb-true}
 use lib.Dec.{ltb}
 use lib.ListN.{getD, length, length-set, set}
 use lib.Seq.{getD-set-other, getD-set-same}
@@ -14,13 +14,6 @@ use mathlib.Core.List.{List, [], _∷_}
 use mathlib.Core.Logic.{_⊎_, inl, inr, ⊎-elim}
 use mathlib.Core.Path.{_∙_, _≡_, ap, refl, sym}
 use native.Mathlib.Omega.{arith}
-
-pub lt-or-le : (a b : ℕ) → (a < b) ⊎ (b ≤ a)
-lt-or-le a b = go (ltb a b) refl
-  where
-    go : (t : Bool) → ltb a b ≡ t → (a < b) ⊎ (b ≤ a)
-    go true e = inl (ltb-true a b e)
-    go false e = inr (ltb-false a b e)
 
 -- what a row stands for
 module _ (all : ℕ) (le : List ℕ) (r : ℕ) where
@@ -78,11 +71,11 @@ module _ (all : ℕ) (le : List ℕ) (r : ℕ) (long : all ≤ length le) where
   pub standing-marked : 0 ≡ standing all (marking true all le r) r
   standing-marked =
       ⊎-elim
-      (λ h. ⊎-elim (λ m. set-gone h m ∙ ap (λ (l : List ℕ). standing all l r) (marking-there all le r true refl h m))
-      (λ m. standing-gone all le r h m ∙ ap (λ (l : List ℕ). standing all l r) (marking-gone all le r true refl h m))
-      (lt-or-le (getD le r 0) added))
       (λ h. standing-beyond all le r h ∙ ap (λ (l : List ℕ). standing all l r) (marking-beyond all le r true refl h))
-      (lt-or-le r all)
+      (λ h. ⊎-elim (λ m. standing-gone all le r h m ∙ ap (λ (l : List ℕ). standing all l r) (marking-gone all le r true refl h m))
+      (λ m. set-gone h m ∙ ap (λ (l : List ℕ). standing all l r) (marking-there all le r true refl h m))
+      (le-or-lt added (getD le r 0)))
+      (le-or-lt all r)
 
   standing-set : (q v : ℕ) → (q ≡ r → ⊥) → standing all (set le r v) q ≡ standing all le q
   unfolding standing

@@ -47,8 +47,8 @@ module _ (su : Setup) (le : List ℕ) where
     wiped-at : (b : ℕ) → SameSlot a b ⊎ (SameSlot a b → ⊥)
         → length (packetOf (find (edit wipe ps a) b)) ≡ standing (allRows su) (marking true (allRows su) le (rowOf su a)) (rowOf su b)
     wiped-at b (inl e) =
-        let w : packetOf (find (edit wipe ps a) b) ≡ [] = rw (← (e .0), ← (e .1))
-        (packet-missing (find (edit wipe ps a) a) (find-wiped ps (poolOf a) (slotOf a))) in
+        let w : packetOf (find (edit wipe ps a) b) ≡ []
+        = rw (← (e .0), ← (e .1)) (packet-missing (find (edit wipe ps a) a) (find-wiped ps (poolOf a) (slotOf a))) in
         ap length w ∙ rw (← (slot-row su a b e)) (standing-marked (allRows su) le (rowOf su a) long)
     wiped-at b (inr o) =
         ap (λ (f : Found). length (packetOf f)) (find-else wipe ps (poolOf b) (slotOf b) (poolOf a) (slotOf a) o)

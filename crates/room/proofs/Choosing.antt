@@ -3,7 +3,7 @@ use Prim.Native.Nat.{_<_, _≤_, suc, zero, ℕ}
 use Rattle.room.proofs.Grow.{NamedAt, Slotted, grow, shape}
 use Rattle.room.specs.FreeSlot.{MoreChangeNothing, slotTaken}
 use Rattle.address.specs.Address.{addressOf, poolOf, slotOf}
-use Rattle.slots.specs.Pools.{Choice, Pool, Slot, allTaken, choose, free, into, lowest, next, pick, shiftPool, taken, tooLarge}
+use Rattle.slots.specs.Pools.{Choice, Pool, Slot, allTaken, choose, findAt, findSlot, free, into, lowest, next, pick, shiftPool, taken, tooLarge, vacant}
 use lib.Dec.{leb}
 use lib.ListN.{length}
 use mathlib.Core.Bool.{Bool, false, true}
@@ -54,45 +54,19 @@ choose-grow spill (k ∷ ks) (p ∷ ps) n h =
     pick-grow spill (leb n (p .size)) _ _ _ _ (more-change-nothing (p .slots) _)
     (λ e. ap shiftPool (choose-grow spill ks ps n (shift-full (choose false ps n) e))) h
 
--- Slots of the store
+-- a slot that is found vacant is one of the store's
+vacant-slot : (xs : List Slot) (i : ℕ) → findSlot xs i ≡ vacant → i < length xs
+vacant-slot [] i e = let z : _≡_ {A = ℕ} 0 1 = cc in absurd (omega arith)
+vacant-slot (x ∷ xs) zero e = omega arith
+vacant-slot (x ∷ xs) (suc i) e = omega (arith, vacant-slot xs i e)
 
-abbrev Below : ℕ → Option ℕ → Type 0
-Below n none = Unit {0}
-Below n (some i) = i < n
+pub vacant-named : (ps : List Pool) (k i : ℕ) → findAt ps k i ≡ vacant → NamedAt (shape ps) k i
+unfolding findAt shape
+vacant-named [] k i e = let z : _≡_ {A = ℕ} 0 1 = cc in absurd (omega arith)
+vacant-named (p ∷ ps) zero i e = vacant-slot (p .slots) i e
+vacant-named (p ∷ ps) (suc k) i e = vacant-named ps k i e
 
-abbrev pub Inside : List ℕ → Choice → Type 0
-Inside ns tooLarge = Unit {0}
-Inside ns (allTaken k) = Unit {0}
-Inside ns (into k i) = NamedAt ns k i
-
-next-below : (n : ℕ) (o : Option ℕ) → Below n o → Below (suc n) (next o)
-next-below n none h = tt
-next-below n (some i) h = omega arith
-
-lowest-below : (xs : List Slot) → Below (length xs) (lowest xs)
-lowest-below [] = tt
-lowest-below (free b ∷ xs) = omega arith
-lowest-below (taken n b ∷ xs) = next-below (length xs) (lowest xs) (lowest-below xs)
-
-shift-in : (n : ℕ) (ns : List ℕ) (r : Choice) → Inside ns r → Inside (n ∷ ns) (shiftPool r)
-shift-in n ns tooLarge h = tt
-shift-in n ns (allTaken k) h = tt
-shift-in n ns (into k i) h = h
-
-pick-in : (b : Bool) (n : ℕ) (ns : List ℕ) (o : Option ℕ) (r : Choice) → Below n o → Inside (n ∷ ns) r → Inside (n ∷ ns) (pick false b o r)
-pick-in false n ns o r h g = g
-pick-in true n ns (some i) r h g = h
-pick-in true n ns none r h g = tt
-
-pub choose-in : (ps : List Pool) (n : ℕ) → Inside (shape ps) (choose false ps n)
-unfolding shape choose
-choose-in [] n = tt
-choose-in (p ∷ ps) n =
-    pick-in (leb n (p .size)) (length (p .slots)) (shape ps) (lowest (p .slots)) (shiftPool (choose false ps n)) (lowest-below (p .slots))
-    (shift-in (length (p .slots)) (shape ps) (choose false ps n) (choose-in ps n))
-
--- Their addresses: at most 256 subpools, of at most 256 slots each
-
+-- at most 256 slots in each subpool
 abbrev pub Narrow : List ℕ → Type 0
 Narrow [] = Unit {0}
 Narrow (n ∷ ns) = (n ≤ 256) × Narrow ns
@@ -107,15 +81,11 @@ named-slot [] k i w h = absurd h
 named-slot (n ∷ ns) zero i w h = omega arith
 named-slot (n ∷ ns) (suc k) i w h = named-slot ns k i (w .1) h
 
-pool-back : (k i : ℕ) → k < 256 → i < 256 → poolOf (addressOf k i) ≡ k
-pool-back k i h g = omega arith
-
-slot-back : (k i : ℕ) → k < 256 → i < 256 → slotOf (addressOf k i) ≡ i
-slot-back k i h g = omega arith
-
 pub slotted : (ns : List ℕ) (k i : ℕ) → Narrow ns → length ns ≤ 256 → NamedAt ns k i → Slotted ns (addressOf k i)
 unfolding Slotted
 slotted ns k i w l h =
     let hk : k < length ns = named-pool ns k i h in
     let hi : i < 256 = named-slot ns k i w h in
-    rw (pool-back k i (omega arith) hi, slot-back k i (omega arith) hi) h
+    let p : poolOf (addressOf k i) ≡ k = omega arith in
+    let s : slotOf (addressOf k i) ≡ i = omega arith in
+    rw (p, s) h

@@ -7,7 +7,7 @@ use Rattle.windows.specs.declared.TimeWindow.{TimeWindow}
 use Rattle.room.proofs.Alike.{Left, answers, by-test, refuses}
 use Rattle.room.proofs.Entries.{Slots, filter-slots, slot-at, without-slots}
 use Rattle.room.proofs.Grow.{Slotted, grow, shape}
-use Rattle.room.proofs.States.{Fit, Same, grown}
+use Rattle.room.proofs.States.{AlikeStates, Fit, grown}
 use Rattle.room.proofs.StoreCalls.{delete-grow, delete-shape}
 use Rattle.rules.specs.Papers.{Outcome, done, into, refused}
 use Rattle.rules.specs.Tests.{unless}
@@ -56,16 +56,16 @@ module _ (ns ks : List ℕ) where
   sweep-shape (e ∷ es) x h n = sweep-shape es (swept x (deleteIn (x .pools) (e .addr))) (one-shape x e h (n .0)) (n .1)
 
   pub clears : (gone left : List Entry) (s : State) → shape (s .pools) ≡ ns → Slots ns gone → Slots ns left
-      → Same ns ks (clearIn gone left s) (clearIn gone left (grown ks s))
+      → AlikeStates ns ks (clearIn gone left s) (clearIn gone left (grown ks s))
   unfolding clearIn
   clears gone left s h m n =
       rw (sweep-grow gone (unswept (s .pools)) h m) (answers _ _ _ _ (record { shaped = sweep-shape gone (unswept (s .pools)) h m; named = n }))
 
-  pub resets : (s : State) → Fit ns s → Same ns ks (resetIn s) (resetIn (grown ks s))
+  pub resets : (s : State) → Fit ns s → AlikeStates ns ks (resetIn s) (resetIn (grown ks s))
   unfolding resetIn
   resets s f = clears (s .entries) [] (enabledAs false s) (f .shaped) (f .named) tt
 
-  pub windows : (w : TimeWindow) (s : State) → Fit ns s → Same ns ks (deleteWindowIn w s) (deleteWindowIn w (grown ks s))
+  pub windows : (w : TimeWindow) (s : State) → Fit ns s → AlikeStates ns ks (deleteWindowIn w s) (deleteWindowIn w (grown ks s))
   unfolding deleteWindowIn windowed
   windows w s f =
       by-test _ _ _ _ _ _ _ (refuses _ _ _)
@@ -75,13 +75,13 @@ module _ (ns ks : List ℕ) where
 
   -- by request ID
   takes : (id : ℕ) (found : ℕ → State → Outcome State)
-      → ((a : ℕ) (s : State) → Slotted ns a → Fit ns s → Same ns ks (found a s) (found a (grown ks s)))
-      → (s : State) → Fit ns s → Same ns ks (takeIn id found s) (takeIn id found (grown ks s))
+      → ((a : ℕ) (s : State) → Slotted ns a → Fit ns s → AlikeStates ns ks (found a s) (found a (grown ks s)))
+      → (s : State) → Fit ns s → AlikeStates ns ks (takeIn id found s) (takeIn id found (grown ks s))
   unfolding takeIn unless
   takes id found h s f = go (ltb (victim id (s .entries)) (length (s .entries))) refl
     where
       go : (b : Bool) → ltb (victim id (s .entries)) (length (s .entries)) ≡ b
-          → Same ns ks
+          → AlikeStates ns ks
           (unless b (done (0 ∷ []) s)
           (found (getD (s .entries) (victim id (s .entries)) none .addr) (withEntries (without (victim id (s .entries)) 1 (s .entries)) s)))
           (unless b (done (0 ∷ []) (grown ks s))
@@ -93,17 +93,17 @@ module _ (ns ks : List ℕ) where
           (record { shaped = f .shaped; named = without-slots ns (victim id (s .entries)) 1 (s .entries) (f .named) })
       go false e = answers _ _ _ s f
 
-  pub keeping : (id : ℕ) (s : State) → Fit ns s → Same ns ks (deleteKeepingIn id s) (deleteKeepingIn id (grown ks s))
+  pub keeping : (id : ℕ) (s : State) → Fit ns s → AlikeStates ns ks (deleteKeepingIn id s) (deleteKeepingIn id (grown ks s))
   unfolding deleteKeepingIn
   keeping id s f = takes id (λ a t. done (1 ∷ a ∷ []) t) (λ a t n g. answers _ _ _ t g) s f
 
   freed-too : (s : State) (o : Outcome (List Pool)) → Fit ns s → Left (λ vs ps. shape ps ≡ ns) o
-      → Same ns ks (freed s o) (freed (grown ks s) (into (grow ks) o))
+      → AlikeStates ns ks (freed s o) (freed (grown ks s) (into (grow ks) o))
   unfolding freed into
   freed-too s (refused p) f l = answers _ _ _ s f
   freed-too s (done vs ps) f l = answers _ _ _ (withPools ps s) (record { shaped = l; named = f .named })
 
-  pub by-id : (id : ℕ) (s : State) → Fit ns s → Same ns ks (deleteByIdIn id s) (deleteByIdIn id (grown ks s))
+  pub by-id : (id : ℕ) (s : State) → Fit ns s → AlikeStates ns ks (deleteByIdIn id s) (deleteByIdIn id (grown ks s))
   unfolding deleteByIdIn
   by-id id s f =
       takes id (λ a t. freed t (deleteIn (t .pools) a))

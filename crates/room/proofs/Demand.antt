@@ -2,9 +2,10 @@
 use Prim.Native.Nat.{_≤_, ℕ}
 use Rattle.room.proofs.Choosing.{Narrow}
 use Rattle.room.proofs.Fresh.{few-pools, few-slots, fresh-grow, fresh-shape, moreOf, slotsOf, slotted-by}
+use Rattle.room.proofs.Grow.{Slotted}
 use Rattle.room.proofs.States.{Fit, grown}
-use Rattle.room.proofs.Steps.{AllSlotted, Good, steps}
-use Rattle.room.specs.Room.{AllNamed, EveryNamed, RoomNeverChangesAnAnswer, addresses, answersOf, strike, struck}
+use Rattle.room.proofs.Steps.{Good, steps}
+use Rattle.room.specs.Room.{EveryNamed, Named, RoomNeverChangesAnAnswer, answersOf, strike, struck}
 use Rattle.schedule.specs.Starting.{freshState}
 use Rattle.schedule.specs.State.{State, withPools}
 use Rattle.schedule.specs.declared.Setup.{Setup}
@@ -15,12 +16,8 @@ use mathlib.Core.Bool.{Bool, cond, false, true}
 use mathlib.Core.List.{List, [], _∷_}
 use mathlib.Core.Path.{_≡_, ap, refl, subst, sym}
 
-abbrev EverySlotted : List ℕ → List Request → Type 0
-EverySlotted ns [] = Unit {0}
-EverySlotted ns (q ∷ qs) = AllSlotted ns (addresses q) × EverySlotted ns qs
-
 module _ (su lu : Setup) (more : su .entries ≤ lu .entries) (off : su .store .spill ≡ false) (ns ks : List ℕ)
-    (narrow : Narrow ns) (few : length ns ≤ 256) where
+    (narrow : Narrow ns) (few : length ns ≤ 256) (named : (a : ℕ) → Named su a → Slotted ns a) where
   -- one request: x is what the smaller made of it
   turn : (s : State) (q : Request) (x : Stepped) → Good ns ks s x (step lu q (grown ks s)) → (rest : List Request) (given : List Answer)
       → run lu rest (grown ks (x .state)) .answers ≡ given → (b : Bool) → struck (x .answer .paper) ≡ b
@@ -29,21 +26,13 @@ module _ (su lu : Setup) (more : su .entries ≤ lu .entries) (off : su .store .
   turn s q x g rest given ih true e = rw (g .still e) at ih
   turn s q x g rest given ih false e = rw (g .alike e) (ap (x .answer ∷_) ih)
 
-  runs : (qs : List Request) (s : State) → Fit ns s → EverySlotted ns qs
+  runs : (qs : List Request) (s : State) → Fit ns s → EveryNamed su qs
       → run lu (strike (run su qs s .answers) qs) (grown ks s) .answers ≡ strike (run su qs s .answers) (run su qs s .answers)
   unfolding run strike
   runs [] s f n = refl
   runs (q ∷ qs) s f n =
-      let g : Good ns ks s (step su q s) (step lu q (grown ks s)) = steps ns ks s f su lu more off narrow few q (n .0) in
+      let g : Good ns ks s (step su q s) (step lu q (grown ks s)) = steps ns ks s f su lu more off narrow few named q (n .0) in
       turn s q (step su q s) g _ _ (runs qs (step su q s .state) (g .fit) (n .1)) _ refl
-
-slotted-all : (su lu : Setup) (xs : List ℕ) → AllNamed su xs → AllSlotted (slotsOf su lu) xs
-slotted-all su lu [] h = tt
-slotted-all su lu (a ∷ xs) h = (slotted-by su lu a (h .0), slotted-all su lu xs (h .1))
-
-slotted-every : (su lu : Setup) (qs : List Request) → EveryNamed su qs → EverySlotted (slotsOf su lu) qs
-slotted-every su lu [] h = tt
-slotted-every su lu (q ∷ qs) h = (slotted-all su lu (addresses q) (h .0), slotted-every su lu qs (h .1))
 
 -- whether the larger spills or not: no request that it would let spill is left, since the smaller refused it as StoreFull
 pub room-never-changes-an-answer : (larger : Bool) → RoomNeverChangesAnAnswer false larger
@@ -52,7 +41,5 @@ room-never-changes-an-answer larger su lu clock margin qs ok r off named =
     let given = answersOf su clock margin qs in
     subst (λ (ps : List Pool). run lu (strike given qs) (withPools ps (freshState su clock margin)) .answers ≡ strike given given)
     (sym (fresh-grow su lu r))
-    (runs su lu (r .more-entries) (off .first) (slotsOf su lu) (moreOf su lu) (few-slots su lu ok) (few-pools su lu ok) qs
-    (freshState su clock margin)
-    (record { shaped = fresh-shape su lu; named = tt })
-    (slotted-every su lu qs named))
+    (runs su lu (r .more-entries) (off .first) (slotsOf su) (moreOf su lu) (few-slots su ok) (few-pools su ok) (slotted-by su) qs
+    (freshState su clock margin) (record { shaped = fresh-shape su; named = tt }) named)

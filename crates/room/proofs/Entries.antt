@@ -4,6 +4,7 @@ use Rattle.room.proofs.Grow.{Slotted}
 use Rattle.table_edit.specs.Edits.{insertSorted, without}
 use Rattle.rows.specs.Entries.{Entry, time}
 use Rattle.selection.specs.Windows.{filter}
+use Rattle.turns_laws.proofs.Follows.{Addresses}
 use lib.Dec.{leb}
 use lib.ListN.{drop, getD, length, take}
 use mathlib.Core.Bool.{Bool, cond, false, true}
@@ -12,8 +13,7 @@ use native.Mathlib.Nat.{le-of-suc-le-suc, not-suc-le-zero}
 
 module _ (ns : List ℕ) where
   abbrev pub Slots : List Entry → Type 0
-  Slots [] = Unit {0}
-  Slots (e ∷ es) = Slotted ns (e .addr) × Slots es
+  Slots es = Addresses (Slotted ns) es
 
   either : (b : Bool) (xs ys : List Entry) → Slots xs → Slots ys → Slots (cond b xs ys)
   either true xs ys f g = f

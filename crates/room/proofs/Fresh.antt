@@ -21,8 +21,6 @@ use mathlib.Core.Path.{_≡_, refl}
 use native.Mathlib.Nat.{not-suc-le-zero}
 use native.Mathlib.Omega.{arith}
 
--- lists made by index
-
 grow-each : (f g : ℕ → Pool) (h : ℕ → ℕ) (n i : ℕ)
     → ((k : ℕ) → k < i + n → g k ≡ record { size = f k .size; slots = f k .slots ++ replicate (h k) (free (replicate (f k .size) 0)) })
     → each g i n ≡ grow (each h i n) (each f i n)
@@ -46,25 +44,26 @@ named-each f zero i k t s e l h = absurd (not-suc-le-zero l)
 named-each f (suc n) i zero t s e l h = let q : t ≡ i = omega arith in rw q at h
 named-each f (suc n) i (suc k) t s e l h = named-each f n (suc i) k t s (omega arith) (omega arith) h
 
-module _ (su lu : Setup) where
-  -- the smaller's slots, and how many more the larger has
+pool-grow : (z n m : ℕ) (z′ : ℕ) → z′ ≡ z → n ≤ m
+    → _≡_ {A = Pool} (record { size = z′; slots = replicate m (free (replicate z′ 0)) })
+    (record { size = z; slots = replicate n (free (replicate z 0)) ++ replicate (m - n) (free (replicate z 0)) })
+pool-grow z n m z′ e l = let q : n + (m - n) ≡ m = omega arith in rw (e, replicate-append-replicate, q)
+
+-- how many more slots the larger has in each subpool
+abbrev pub moreOf : Setup → Setup → List ℕ
+moreOf su lu = each (λ k. slotsAt (lu .store) k - slotsAt (su .store) k) 0 (su .store .pools)
+
+pub fresh-grow : (su lu : Setup) → Roomier su lu → freshPools (lu .store) ≡ grow (moreOf su lu) (freshPools (su .store))
+unfolding freshPools
+fresh-grow su lu r =
+    rw (r .same-pools)
+    (grow-each (freshPool (su .store)) (freshPool (lu .store)) (λ k. slotsAt (lu .store) k - slotsAt (su .store) k) (su .store .pools) 0
+    (λ k l. pool-grow _ _ _ _ (r .same-sizes k (omega arith)) (r .more-slots k (omega arith))))
+
+-- the smaller's slots
+module _ (su : Setup) where
   abbrev pub slotsOf : List ℕ
   slotsOf = each (slotsAt (su .store)) 0 (su .store .pools)
-
-  abbrev pub moreOf : List ℕ
-  moreOf = each (λ k. slotsAt (lu .store) k - slotsAt (su .store) k) 0 (su .store .pools)
-
-  pool-grow : (z n m : ℕ) (z′ : ℕ) → z′ ≡ z → n ≤ m
-      → _≡_ {A = Pool} (record { size = z′; slots = replicate m (free (replicate z′ 0)) })
-      (record { size = z; slots = replicate n (free (replicate z 0)) ++ replicate (m - n) (free (replicate z 0)) })
-  pool-grow z n m z′ e l = let q : n + (m - n) ≡ m = omega arith in rw (e, replicate-append-replicate, q)
-
-  pub fresh-grow : Roomier su lu → freshPools (lu .store) ≡ grow moreOf (freshPools (su .store))
-  unfolding freshPools
-  fresh-grow r =
-      rw (r .same-pools)
-      (grow-each (freshPool (su .store)) (freshPool (lu .store)) (λ k. slotsAt (lu .store) k - slotsAt (su .store) k) (su .store .pools) 0
-      (λ k l. pool-grow _ _ _ _ (r .same-sizes k (omega arith)) (r .more-slots k (omega arith))))
 
   pub fresh-shape : shape (freshPools (su .store)) ≡ slotsOf
   unfolding freshPools

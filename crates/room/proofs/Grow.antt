@@ -29,8 +29,6 @@ grow [] ps = ps
 grow (k ∷ ks) [] = []
 grow (k ∷ ks) (p ∷ ps) = record { size = p .size; slots = p .slots ++ replicate k (free (replicate (p .size) 0)) } ∷ grow ks ps
 
--- Finding
-
 findSlot-append : (xs ys : List Slot) (i : ℕ) → i < length xs → findSlot (xs ++ ys) i ≡ findSlot xs i
 findSlot-append [] ys i h = absurd (not-suc-le-zero h)
 findSlot-append (x ∷ xs) ys zero h = refl
@@ -46,8 +44,6 @@ findAt-grow (n ∷ ks) (p ∷ ps) (suc k) i h = findAt-grow ks ps k i h
 pub find-grow : (ks : List ℕ) (ps : List Pool) (a : ℕ) → Slotted (shape ps) a → find (grow ks ps) a ≡ find ps a
 unfolding Slotted
 find-grow ks ps a h = findAt-grow ks ps (poolOf a) (slotOf a) h
-
--- Editing
 
 editSlot-append : (f : Slot → Slot) (xs ys : List Slot) (i : ℕ) → i < length xs → editSlot f (xs ++ ys) i ≡ editSlot f xs i ++ ys
 editSlot-append f [] ys i h = absurd (not-suc-le-zero h)

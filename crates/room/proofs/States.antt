@@ -20,27 +20,27 @@ pub record Fit (ns : List ℕ) (s : State) : Type 0 where
 abbrev pub grown : List ℕ → State → State
 grown ks s = withPools (grow ks (s .pools)) s
 
-abbrev pub Same : List ℕ → List ℕ → Outcome State → Outcome State → Type 0
-Same ns ks o o′ = Alike (grown ks) (λ vs s. Fit ns s) o o′
+abbrev pub AlikeStates : List ℕ → List ℕ → Outcome State → Outcome State → Type 0
+AlikeStates ns ks o o′ = Alike (grown ks) (λ vs s. Fit ns s) o o′
 
 module _ (ns ks : List ℕ) (s : State) (fits : Fit ns s) where
   -- other subpools
   pub pools-too : (ok : List ℕ → List Pool → Type 0) → ((vs : List ℕ) (ps : List Pool) → ok vs ps → shape ps ≡ ns)
       → (o o′ : Outcome (List Pool)) → Alike (grow ks) ok o o′
-      → Same ns ks (into (λ ps. withPools ps s) o) (into (λ ps. withPools ps (grown ks s)) o′)
+      → AlikeStates ns ks (into (λ ps. withPools ps s) o) (into (λ ps. withPools ps (grown ks s)) o′)
   unfolding into says
   pools-too ok f (refused p) o′ a = record { same = λ h. rw (refused-too _ _ p o′ a h); left = tt }
   pools-too ok f (done vs ps) o′ a =
       rw (answered-too _ _ vs ps o′ a) (answers _ _ vs (withPools ps s) (record { shaped = f vs ps (a .left); named = fits .named }))
 
   -- another record
-  pub record-too : (o : Outcome Record) → Same ns ks (into (withRecord s) o) (into (withRecord (grown ks s)) o)
+  pub record-too : (o : Outcome Record) → AlikeStates ns ks (into (withRecord s) o) (into (withRecord (grown ks s)) o)
   unfolding into
   record-too (refused p) = refuses _ _ p
   record-too (done vs r) = answers _ _ vs (withRecord s r) (record { shaped = fits .shaped; named = fits .named })
 
   -- the same state, whatever is answered
-  pub answer-too : {A : Type 0} (o : Outcome A) → Same ns ks (into (λ x. s) o) (into (λ x. grown ks s) o)
+  pub answer-too : {A : Type 0} (o : Outcome A) → AlikeStates ns ks (into (λ x. s) o) (into (λ x. grown ks s) o)
   unfolding into
   answer-too (refused p) = refuses _ _ p
   answer-too (done vs x) = answers _ _ vs s fits

@@ -5,10 +5,10 @@ use Rattle.room.proofs.Choosing.{Narrow}
 use Rattle.room.proofs.Deleting.{by-id, keeping, resets, windows}
 use Rattle.room.proofs.Grow.{Slotted, edit-grow, grow, shape, shape-edit}
 use Rattle.room.proofs.Inserting.{stored, unwrapped, wrapped}
-use Rattle.room.proofs.States.{Fit, Same, answer-too, grown, pools-too, record-too}
+use Rattle.room.proofs.States.{AlikeStates, Fit, answer-too, grown, pools-too, record-too}
 use Rattle.room.proofs.StoreCalls.{Placed, adds, deletes, has-grow, here, len-grow, packet-grow, read-grow}
 use Rattle.room.proofs.Ticking.{grown-log, ticks}
-use Rattle.room.specs.Room.{addresses, struck}
+use Rattle.room.specs.Room.{AllNamed, Named, addresses, struck}
 use Rattle.rules.specs.Papers.{Outcome, after, done, into, refused, says}
 use Rattle.schedule.specs.State.{State, recordOf, withPools}
 use Rattle.schedule.specs.declared.Setup.{Setup}
@@ -22,7 +22,7 @@ use Rattle.lookup.specs.Calls.{packetIn}
 use Rattle.store.specs.Edits.{edit, rewrite}
 use lib.ListN.{length}
 use mathlib.Core.Bool.{false, true}
-use mathlib.Core.List.{List, [], _∷_}
+use mathlib.Core.List.{List}
 use mathlib.Core.Path.{_∙_, _≡_, refl}
 
 -- x on the smaller, which was at s, and x′ on the larger
@@ -30,10 +30,6 @@ pub record Good (ns ks : List ℕ) (s : State) (x x′ : Stepped) : Type 0 where
   pub alike : struck (x .answer .paper) ≡ false → x′ ≡ record { answer = x .answer; state = grown ks (x .state) }
   pub still : struck (x .answer .paper) ≡ true → x .state ≡ s
   pub fit : Fit ns (x .state)
-
-abbrev pub AllSlotted : List ℕ → List ℕ → Type 0
-AllSlotted ns [] = Unit {0}
-AllSlotted ns (a ∷ xs) = Slotted ns a × AllSlotted ns xs
 
 -- the entries alone are looked at
 counts : (ks : List ℕ) (s : State) → countIn (grown ks s) ≡ countIn s
@@ -46,7 +42,7 @@ retrieves ks w s = refl
 
 module _ (ns ks : List ℕ) (s : State) (fits : Fit ns s) where
   -- a call that leaves a state
-  carries : (o o′ : Outcome State) → Same ns ks o o′ → Good ns ks s (carried s o) (carried (grown ks s) o′)
+  carries : (o o′ : Outcome State) → AlikeStates ns ks o o′ → Good ns ks s (carried s o) (carried (grown ks s) o′)
   unfolding carried says after
   carries (refused p) o′ a = record { alike = λ h. rw (refused-too _ _ p o′ a h); still = λ h. refl; fit = fits }
   carries (done vs t) o′ a =
@@ -70,7 +66,7 @@ module _ (ns ks : List ℕ) (s : State) (fits : Fit ns s) where
   reads o o′ buf e = rw e (looks o o _ _ refl refl)
 
   modifies : (a : ℕ) (d : List ℕ) → Slotted ns a
-      → Same ns ks
+      → AlikeStates ns ks
       (into (λ b. withPools (edit (rewrite d) (s .pools) a) s) (packetIn (s .pools) a))
       (into (λ b. withPools (edit (rewrite d) (grow ks (s .pools)) a) (grown ks s)) (packetIn (grow ks (s .pools)) a))
   modifies a d n =
@@ -80,25 +76,25 @@ module _ (ns ks : List ℕ) (s : State) (fits : Fit ns s) where
       (packetIn (s .pools) a))
 
   module _ (su lu : Setup) (more : su .entries ≤ lu .entries) (off : su .store .spill ≡ false) (narrow : Narrow ns)
-      (few : length ns ≤ 256) where
-    pub steps : (q : Request) → AllSlotted ns (addresses q) → Good ns ks s (step su q s) (step lu q (grown ks s))
+      (few : length ns ≤ 256) (named : (a : ℕ) → Named su a → Slotted ns a) where
+    pub steps : (q : Request) → AllNamed su (addresses q) → Good ns ks s (step su q s) (step lu q (grown ks s))
     unfolding step addresses
     steps (add d) n =
         carries _ _
         (pools-too ns ks s fits (Placed ns) (λ vs ps e. e .0) _ _ (adds ns ks (s .pools) (fits .shaped) narrow few d _ _ off))
-    steps (read a buf) n = reads _ _ buf (read-grow ns ks (s .pools) (fits .shaped) a (n .0) buf)
-    steps (modify a d) n = carries _ _ (modifies a d (n .0))
+    steps (read a buf) n = reads _ _ buf (read-grow ns ks (s .pools) (fits .shaped) a (named a (n .0)) buf)
+    steps (modify a d) n = carries _ _ (modifies a d (named a (n .0)))
     steps (delete a) n =
-        carries _ _ (pools-too ns ks s fits (λ vs ps. shape ps ≡ ns) (λ vs ps e. e) _ _ (deletes ns ks (s .pools) (fits .shaped) a (n .0)))
-    steps (hasElementAt a) n = looks _ _ _ _ (has-grow ns ks (s .pools) (fits .shaped) a (n .0)) refl
-    steps (lenOfData a) n = looks _ _ _ _ (len-grow ns ks (s .pools) (fits .shaped) a (n .0)) refl
+        carries _ _ (pools-too ns ks s fits (λ vs ps. shape ps ≡ ns) (λ vs ps e. e) _ _ (deletes ns ks (s .pools) (fits .shaped) a (named a (n .0))))
+    steps (hasElementAt a) n = looks _ _ _ _ (has-grow ns ks (s .pools) (fits .shaped) a (named a (n .0))) refl
+    steps (lenOfData a) n = looks _ _ _ _ (len-grow ns ks (s .pools) (fits .shaped) a (named a (n .0))) refl
     steps (setClock t) n = carries _ _ (record-too ns ks s fits (clockIn t (recordOf s)))
     steps enable n = carries _ _ (record-too ns ks s fits (markIn true (recordOf s)))
     steps disable n = carries _ _ (record-too ns ks s fits (markIn false (recordOf s)))
     steps count n = looks (countIn s) (countIn (grown ks s)) _ _ (counts ks s) refl
     steps (insertWrapped p) n = carries _ _ (wrapped su lu more ns ks off narrow few s fits p)
     steps (insertUnwrapped t p) n = carries _ _ (unwrapped su lu more ns ks off narrow few s fits t p)
-    steps (insertStored t id a) n = carries _ _ (stored su lu more ns ks t id a s fits (n .0))
+    steps (insertStored t id a) n = carries _ _ (stored su lu more ns ks t id a s fits (named a (n .0)))
     steps (retrieve w) n = looks (retrieveIn w s) (retrieveIn w (grown ks s)) _ _ (retrieves ks w s) refl
     steps (deleteWindow w) n = carries _ _ (windows ns ks w s fits)
     steps reset n = carries _ _ (resets ns ks s fits)

@@ -1,10 +1,11 @@
 -- The store's calls on the smaller store and on the larger.
 use Prim.Native.Nat.{_≤_, ℕ}
 use Rattle.room.proofs.Alike.{Alike, Left, answers, refuses, strikes}
-use Rattle.room.proofs.Choosing.{Inside, Narrow, choose-grow, choose-in, isFull, slotted}
+use Rattle.room.proofs.Choosing.{Narrow, choose-grow, isFull, slotted, vacant-named}
 use Rattle.room.proofs.Grow.{Slotted, edit-grow, editAt-grow, find-grow, grow, shape, shape-edit, shape-editAt}
 use Rattle.room.specs.Room.{struck}
 use Rattle.rules.specs.Papers.{done, into}
+use Rattle.store.proofs.Chosen.{Open, choose-open}
 use Rattle.store.specs.Calls.{addIn, deleteIn, place}
 use Rattle.lookup.specs.Calls.{hasIn, ifHeld, ifNamed, lenIn, packetIn, readIn}
 use Rattle.slots.specs.Pools.{Choice, Found, Pool, allTaken, find, held, noPool, noSlot, tooLarge, vacant}
@@ -69,15 +70,16 @@ module _ (ns ks : List ℕ) (ps : List Pool) (shaped : shape ps ≡ ns) where
     deletes = record { same = λ h. delete-grow; left = delete-shape }
 
   module _ (narrow : Narrow ns) (few : length ns ≤ 256) where
-    places : (d : List ℕ) (x x′ : Choice) → (isFull x ≡ false → x′ ≡ x) → Inside ns x
+    places : (d : List ℕ) (x x′ : Choice) → (isFull x ≡ false → x′ ≡ x) → Open ps (length d) x
         → Alike (grow ks) (Placed ns) (place ps d x) (place (grow ks ps) d x′)
     unfolding place struck
     places d tooLarge x′ f h = rw (f refl) (refuses _ _ _)
     places d (allTaken k) x′ f h = strikes _ _ _ _ refl
     places d (P.into k i) x′ f h =
-        rw (f refl, editAt-grow (fill d) ks ps k i (rw shaped h))
-        (answers _ _ _ _ (shape-editAt (fill d) ps k i ∙ shaped, slotted ns k i narrow few h))
+        let n = vacant-named ps k i (h .0) in
+        rw (f refl, editAt-grow (fill d) ks ps k i n)
+        (answers _ _ _ _ (shape-editAt (fill d) ps k i ∙ shaped, slotted ns k i narrow few (rw shaped at n)))
 
     pub adds : (d : List ℕ) (x y : Bool) → x ≡ false → Alike (grow ks) (Placed ns) (addIn x ps d) (addIn y (grow ks ps) d)
     unfolding addIn
-    adds d x y e = rw e (places d _ _ (choose-grow y ks ps (length d)) (rw (← shaped) (choose-in ps (length d))))
+    adds d x y e = rw e (places d _ _ (choose-grow y ks ps (length d)) (choose-open false ps (length d)))

@@ -13,7 +13,7 @@ use Rattle.tick.specs.Tick.{Logged, firstLacks, handedOut, tickIn, usable}
 use Rattle.time.specs.Time.{instant}
 use Rattle.turns.specs.Released.{firstTotal}
 use Rattle.turn.specs.Turns.{Handout, always, handout, leave}
-use Rattle.turns_laws.proofs.Follows.{Addresses, Same as Following, follows}
+use Rattle.turns_laws.proofs.Follows.{SameButPools, follows}
 use Rattle.turns_laws.proofs.Split.{splits}
 use lib.ListN.{length}
 use mathlib.Core.Bool.{Bool, false, true}
@@ -40,16 +40,12 @@ module _ (ns ks : List ℕ) where
       (ap (λ (x : List Pool). edit wipe x a) (r .0) ∙ edit-grow wipe ks ps a (here ns ks ps (r .1) a n), shape-edit wipe ps a ∙ r .1)
   keeps false ps qs a n r = r
 
-  addresses-of : (es : List Entry) → Slots ns es → Addresses (Slotted ns) es
-  addresses-of [] n = tt
-  addresses-of (e ∷ es) n = (n .0, addresses-of es (n .1))
-
   module _ (del : Bool) (on : Entry → Bool) (ck k used cap : ℕ) (es : List Entry) (ps : List Pool) (shaped : shape ps ≡ ns)
       (named : Slots ns es) where
-    related : Following Related (handout (leave del) on ck k used cap es ps) (handout (leave del) on ck k used cap es (grow ks ps))
+    related : SameButPools Related (handout (leave del) on ck k used cap es ps) (handout (leave del) on ck k used cap es (grow ks ps))
     related =
         follows Related (Slotted ns) (leave del) (leave del) finds (keeps del) on ck k used cap es ps (grow ks ps)
-        (addresses-of es named) (refl, shaped)
+        named (refl, shaped)
 
     hands : handout (leave del) on ck k used cap es (grow ks ps) ≡ grown-handout ks (handout (leave del) on ck k used cap es ps)
     hands = λ i. record { records = sym (related .records-same) i; left = sym (related .left-same) i; pools = related .pools-related .0 i }

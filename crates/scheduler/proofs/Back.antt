@@ -3,6 +3,7 @@
 use Prim.Native.Nat.{ℕ}
 use Rattle.deletions.specs.Answers.{clearedPaper, lastPaper}
 use Rattle.by_id.specs.Answers.{freedPaper, takenPaper}
+use Rattle.tick.specs.Promise.{tickPaper}
 use Rattle.windows.specs.Answers.{retrievedPaper}
 use Rattle.deletions.specs.declared.ClearAnswer.the-variants as Cl
 use Rattle.deletions.specs.declared.ClearAnswer.{ClearAnswer}
@@ -36,6 +37,8 @@ use Rattle.lookup.specs.Refusals.{paper as storePaper}
 use Rattle.slots.specs.declared.StoreIdError.the-variants.{InvalidPacketIdx, InvalidSubpool}
 use Rattle.slots.specs.declared.StoreRefusal.the-variants.{BadBuffers, BadSetup, BufferTooSmall, DataDoesNotExist, DataTooLarge, InvalidStoreId, StateDamaged, StoreFull}
 use Rattle.slots.specs.declared.StoreRefusal.{StoreRefusal}
+use Rattle.tick.specs.declared.TickAnswer.the-variants as T
+use Rattle.tick.specs.declared.TickAnswer.{TickAnswer}
 use Rattle.store_laws.proofs.Back.{back as storeBack, there-and-back as store-there-and-back}
 use Rattle.time.specs.declared.Margin.{Margin}
 use Rattle.time.specs.declared.UnixTime.{UnixTime}
@@ -119,46 +122,54 @@ there-and-back (LogTooSmall t) w = refl
 
 -- ---- the answers of each call
 
-pub doneOf : Paper → Done
-doneOf p = cond (eqb (p .number) 0) D.Ok (D.Refused (back p))
+-- an answer is found by its values, a refusal by number and values
+pub answerOf : {A : Type 0} → (List ℕ → A) → (ScheduleRefusal → A) → Paper → A
+answerOf answer refusal p = cond (eqb (p .number) 0) (answer (p .values)) (refusal (back p))
 
-pub done-back : (a : Done) → Inside D.Refused a → doneOf (donePaper a) ≡ a
-unfolding doneOf donePaper
+refusal-back : {A : Type 0} (answer : List ℕ → A) (refusal : ScheduleRefusal → A) (e : ScheduleRefusal) → Words e
+    → answerOf answer refusal (paper e) ≡ refusal e
+unfolding answerOf
+refusal-back answer refusal e w = rw (above-zero e, there-and-back e w)
+
+pub doneOf : List ℕ → Done
+doneOf vs = D.Ok
+
+pub done-back : (a : Done) → Inside D.Refused a → answerOf doneOf D.Refused (donePaper a) ≡ a
+unfolding answerOf doneOf donePaper
 done-back D.Ok w = refl
-done-back (D.Refused e) w = rw (above-zero e, there-and-back e (w e refl))
+done-back (D.Refused e) w = refusal-back doneOf D.Refused e (w e refl)
 
-pub verdictOf : Paper → Verdict
-verdictOf p = cond (eqb (p .number) 0) Ve.Fine (Ve.Refused (back p))
+pub verdictOf : List ℕ → Verdict
+verdictOf vs = Ve.Fine
 
-pub verdict-back : (a : Verdict) → Inside Ve.Refused a → verdictOf (verdictPaper a) ≡ a
-unfolding verdictOf verdictPaper
+pub verdict-back : (a : Verdict) → Inside Ve.Refused a → answerOf verdictOf Ve.Refused (verdictPaper a) ≡ a
+unfolding answerOf verdictOf verdictPaper
 verdict-back Ve.Fine w = refl
-verdict-back (Ve.Refused e) w = rw (above-zero e, there-and-back e (w e refl))
+verdict-back (Ve.Refused e) w = refusal-back verdictOf Ve.Refused e (w e refl)
 
-pub countedOf : Paper → Counted
-countedOf p = cond (eqb (p .number) 0) (Co.Count (getD (p .values) 0 0)) (Co.Refused (back p))
+pub countedOf : List ℕ → Counted
+countedOf vs = Co.Count (getD vs 0 0)
 
-pub counted-back : (a : Counted) → Inside Co.Refused a → countedOf (countedPaper a) ≡ a
-unfolding countedOf countedPaper
+pub counted-back : (a : Counted) → Inside Co.Refused a → answerOf countedOf Co.Refused (countedPaper a) ≡ a
+unfolding answerOf countedOf countedPaper
 counted-back (Co.Count n) w = refl
-counted-back (Co.Refused e) w = rw (above-zero e, there-and-back e (w e refl))
+counted-back (Co.Refused e) w = refusal-back countedOf Co.Refused e (w e refl)
 
-pub retrievedOf : Paper → Retrieved
-retrievedOf p = cond (eqb (p .number) 0) (R.Rows (record { first = getD (p .values) 0 0; number = getD (p .values) 1 0 })) (R.Refused (back p))
+pub retrievedOf : List ℕ → Retrieved
+retrievedOf vs = R.Rows (record { first = getD vs 0 0; number = getD vs 1 0 })
 
-pub retrieved-back : (a : Retrieved) → Inside R.Refused a → retrievedOf (retrievedPaper a) ≡ a
-unfolding retrievedOf retrievedPaper
+pub retrieved-back : (a : Retrieved) → Inside R.Refused a → answerOf retrievedOf R.Refused (retrievedPaper a) ≡ a
+unfolding answerOf retrievedOf retrievedPaper
 retrieved-back (R.Rows x) w = refl
-retrieved-back (R.Refused e) w = rw (above-zero e, there-and-back e (w e refl))
+retrieved-back (R.Refused e) w = refusal-back retrievedOf R.Refused e (w e refl)
 
-pub insertedOf : Paper → InsertAnswer
-insertedOf p = cond (eqb (p .number) 0)
-    (I.Inserted (record { addr = getD (p .values) 0 0; «request_id» = getD (p .values) 1 0 })) (I.Refused (back p))
+pub insertedOf : List ℕ → InsertAnswer
+insertedOf vs = I.Inserted (record { addr = getD vs 0 0; «request_id» = getD vs 1 0 })
 
-pub inserted-back : (a : InsertAnswer) → Inside I.Refused a → insertedOf (insertedPaper a) ≡ a
-unfolding insertedOf insertedPaper
+pub inserted-back : (a : InsertAnswer) → Inside I.Refused a → answerOf insertedOf I.Refused (insertedPaper a) ≡ a
+unfolding answerOf insertedOf insertedPaper
 inserted-back (I.Inserted x) w = refl
-inserted-back (I.Refused e) w = rw (above-zero e, there-and-back e (w e refl))
+inserted-back (I.Refused e) w = refusal-back insertedOf I.Refused e (w e refl)
 
 lastOf : Paper → Last
 lastOf p = cond (eqb (p .number) 0) La.None (La.Missing (storeBack p))
@@ -171,34 +182,42 @@ last-back (La.Missing e) = rw (store-numbered e, store-there-and-back e)
 tallyOf : List ℕ → Tally
 tallyOf vs = record { deleted = getD vs 0 0; missing = getD vs 1 0; last = lastOf (no (getD vs 2 0) (drop 3 vs)) }
 
-pub clearedOf : Paper → ClearAnswer
-clearedOf p = cond (eqb (p .number) 0) (Cl.Done (tallyOf (p .values))) (Cl.Refused (back p))
+pub clearedOf : List ℕ → ClearAnswer
+clearedOf vs = Cl.Done (tallyOf vs)
 
-pub cleared-back : (a : ClearAnswer) → Inside Cl.Refused a → clearedOf (clearedPaper a) ≡ a
-unfolding clearedOf clearedPaper tallyOf
+pub cleared-back : (a : ClearAnswer) → Inside Cl.Refused a → answerOf clearedOf Cl.Refused (clearedPaper a) ≡ a
+unfolding answerOf clearedOf clearedPaper tallyOf
 cleared-back (Cl.Done t) w = ap (λ (l : Last). Cl.Done (record { deleted = t .deleted; missing = t .missing; last = l })) (last-back (t .last))
-cleared-back (Cl.Refused e) w = rw (above-zero e, there-and-back e (w e refl))
+cleared-back (Cl.Refused e) w = refusal-back clearedOf Cl.Refused e (w e refl)
 
 -- by request ID: the first value says whether there was a match
-pub takenOf : Paper → TakeAnswer
-takenOf p = cond (eqb (p .number) 0) (cond (eqb (getD (p .values) 0 0) 0) Ta.NoMatch (Ta.Address (getD (p .values) 1 0))) (Ta.Refused (back p))
+pub takenOf : List ℕ → TakeAnswer
+takenOf vs = cond (eqb (getD vs 0 0) 0) Ta.NoMatch (Ta.Address (getD vs 1 0))
 
-pub taken-back : (a : TakeAnswer) → Inside Ta.Refused a → takenOf (takenPaper a) ≡ a
-unfolding takenOf takenPaper
+pub taken-back : (a : TakeAnswer) → Inside Ta.Refused a → answerOf takenOf Ta.Refused (takenPaper a) ≡ a
+unfolding answerOf takenOf takenPaper
 taken-back Ta.NoMatch w = refl
 taken-back (Ta.Address a) w = refl
-taken-back (Ta.Refused e) w = rw (above-zero e, there-and-back e (w e refl))
+taken-back (Ta.Refused e) w = refusal-back takenOf Ta.Refused e (w e refl)
 
 -- and the second whether the packet was there
 matchOf : List ℕ → FreeAnswer
 matchOf vs = cond (eqb (getD vs 1 0) 1) F.Deleted (F.Missing (storeBack (no (getD vs 2 0) (drop 3 vs))))
 
-pub freedOf : Paper → FreeAnswer
-freedOf p = cond (eqb (p .number) 0) (cond (eqb (getD (p .values) 0 0) 0) F.NoMatch (matchOf (p .values))) (F.Refused (back p))
+pub freedOf : List ℕ → FreeAnswer
+freedOf vs = cond (eqb (getD vs 0 0) 0) F.NoMatch (matchOf vs)
 
-pub freed-back : (a : FreeAnswer) → Inside F.Refused a → freedOf (freedPaper a) ≡ a
-unfolding freedOf freedPaper matchOf
+pub freed-back : (a : FreeAnswer) → Inside F.Refused a → answerOf freedOf F.Refused (freedPaper a) ≡ a
+unfolding answerOf freedOf freedPaper matchOf
 freed-back F.NoMatch w = refl
 freed-back F.Deleted w = refl
 freed-back (F.Missing e) w = ap F.Missing (store-there-and-back e)
-freed-back (F.Refused e) w = rw (above-zero e, there-and-back e (w e refl))
+freed-back (F.Refused e) w = refusal-back freedOf F.Refused e (w e refl)
+
+pub tickedOf : List ℕ → TickAnswer
+tickedOf vs = T.HandedOut (record { m = getD vs 0 0; remain = getD vs 1 0 })
+
+pub ticked-back : (a : TickAnswer) → Inside T.Refused a → answerOf tickedOf T.Refused (tickPaper a) ≡ a
+unfolding answerOf tickedOf tickPaper
+ticked-back (T.HandedOut h) w = refl
+ticked-back (T.Refused e) w = refusal-back tickedOf T.Refused e (w e refl)

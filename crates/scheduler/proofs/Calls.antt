@@ -3,6 +3,7 @@
 use Prim.Native.Nat.{_<_, _≤_, suc, zero-le, ℕ}
 use Rattle.deletions.specs.Deleting.{Swept, clearIn, deleteWindowIn, resetIn, sweep, swept, unswept}
 use Rattle.by_id.specs.ById.{deleteByIdIn, deleteKeepingIn, freed, takeIn}
+use Rattle.record.specs.declared.Record.{Record}
 use Rattle.windows.specs.Windowing.{windowOf, windowed}
 use Rattle.windows.specs.declared.TimeWindow.{TimeWindow}
 use Rattle.insertions.specs.Inserting.{activity, entered, insertUnwrappedIn}
@@ -21,7 +22,7 @@ use Rattle.schedule.specs.declared.Setup.{Setup}
 use Rattle.scheduler.proofs.Stamps.{data-bytes, stamp-timely}
 use Rattle.scheduler.proofs.Subpools.{add-fits, delete-fits, fresh-fits, rewrite-fits}
 use Rattle.scheduler.specs.Fits.{Bytes, Fits, Gives, PoolsFit}
-use Rattle.scheduler.specs.Steps.{ofPools, withRecord}
+use Rattle.scheduler.specs.Steps.{ofPools, ofRecord}
 use Rattle.stamp.specs.Stamp.{Timely, stampOf}
 use Rattle.stamp.specs.declared.Stamp.the-variants.{At, Refused}
 use Rattle.stamp.specs.declared.Stamp.{Stamp}
@@ -53,11 +54,15 @@ unfolding after
 gives-after su s (refused p) f g = f
 gives-after su s (done vs t) f g = g
 
--- either of two outcomes
-either : (su : Setup) (b : Bool) (x y : Outcome State) → Gives su x → (b ≡ true → Gives su y) → Gives su (unless b x y)
+pub after-gives : (su : Setup) (s : State) (o : Outcome State) → Fits su (after o s (λ t. t)) → Gives su o
+unfolding after
+after-gives su s (refused p) f = tt
+after-gives su s (done vs t) f = f
+
+unless-gives : (su : Setup) (b : Bool) (x y : Outcome State) → Gives su x → (b ≡ true → Gives su y) → Gives su (unless b x y)
 unfolding unless
-either su true x y g h = h refl
-either su false x y g h = g
+unless-gives su true x y g h = h refl
+unless-gives su false x y g h = g
 
 -- the same but for the subpools, or the entries
 pub with-pools : (su : Setup) (s : State) (ps : List Pool) → Fits su s → PoolsFit (su .store) 0 ps → Fits su (withPools ps s)
@@ -86,25 +91,44 @@ module _ (su : Setup) (s : State) (f : Fits su s) where
   modify-gives a d (refused p) = tt
   modify-gives a d (done vs b) = with-pools su s _ f (rewrite-fits (su .store) (s .pools) (f .pools) a d)
 
-  -- ---- the record's calls
+-- ---- the record's calls
 
-  pub clock-gives : (t : UnixTime) → Gives su (into (withRecord s) (clockIn t (recordOf s)))
-  unfolding clockIn into unless
-  clock-gives t = go (timesInRange (recordOf s)) (inRange t) refl
-    where
-      go : (a b : Bool) → inRange t ≡ b
-          → Gives su (into (withRecord s) (unless a (refused (no 3 [])) (unless b (refused (no 4 [])) (done [] (withClock t (recordOf s))))))
-      go false b e = tt
-      go true false e = tt
-      go true true e = record { pools = f .pools; kept = f .kept; few = f .few; clock = e; margin = f .margin }
+-- a record with as many entries, and with clock and margin in range where they were
+pub record StaysTimed (r r′ : Record) : Type 0 where
+  pub same-count : r′ .count ≡ r .count
+  pub in-range : timesInRange r ≡ true → timesInRange r′ ≡ true
 
-  pub mark-gives : (on : Bool) → Gives su (into (withRecord s) (markIn on (recordOf s)))
-  unfolding markIn into unless
-  mark-gives on = go (timesInRange (recordOf s))
-    where
-      go : (a : Bool) → Gives su (into (withRecord s) (unless a (refused (no 3 [])) (done [] (withMark on (recordOf s)))))
-      go false = tt
-      go true = record { pools = f .pools; kept = f .kept; few = f .few; clock = f .clock; margin = f .margin }
+pub clock-timed : (t : UnixTime) (r : Record) → StaysTimed r (after (clockIn t r) r (λ x. x))
+unfolding clockIn unless after
+clock-timed t r = go (timesInRange r) (inRange t) refl
+  where
+    go : (a b : Bool) → inRange t ≡ b
+        → StaysTimed r (after (unless a (refused (no 3 [])) (unless b (refused (no 4 [])) (done [] (withClock t r)))) r (λ x. x))
+    go false b e = record { same-count = refl; in-range = λ h. h }
+    go true false e = record { same-count = refl; in-range = λ h. h }
+    go true true e = record { same-count = refl; in-range = λ h. rw e (and-right (inRange (r .clock)) (marginInRange (r .margin)) h) }
+
+pub mark-timed : (on : Bool) (r : Record) → StaysTimed r (after (markIn on r) r (λ x. x))
+unfolding markIn unless after
+mark-timed on r = go (timesInRange r)
+  where
+    go : (a : Bool) → StaysTimed r (after (unless a (refused (no 3 [])) (done [] (withMark on r))) r (λ x. x))
+    go false = record { same-count = refl; in-range = λ h. h }
+    go true = record { same-count = refl; in-range = λ h. h }
+
+pub record-gives : (su : Setup) (s : State) → Fits su s → (o : Outcome Record) → StaysTimed (recordOf s) (after o (recordOf s) (λ x. x))
+    → Gives su (ofRecord s o)
+unfolding into after
+record-gives su s f (refused p) h = tt
+record-gives su s f (done vs x) h =
+    let k = h .in-range (rw (f .clock) (f .margin)) in
+    record {
+      pools = f .pools;
+      kept = f .kept;
+      few = f .few;
+      clock = and-left (inRange (x .clock)) (marginInRange (x .margin)) k;
+      margin = and-right (inRange (x .clock)) (marginInRange (x .margin)) k;
+    }
 
 -- ---- the insertions
 
@@ -115,8 +139,8 @@ module _ (su : Setup) (s : State) (f : Fits su s) where
   enter-gives : (t : UnixTime) (id a : ℕ) (vs : List ℕ) → InRange t → Gives su (enter su t id a vs s)
   unfolding enter
   enter-gives t id a vs r =
-      either su _ _ _ tt
-      (λ x. either su _ _ _ tt
+      unless-gives su _ _ _ tt
+      (λ x. unless-gives su _ _ _ tt
       (λ l. let n : length (s .entries) < su .entries = ltb-true _ _ l in
       with-entries su s (insertSorted (entryOf (momentOf t) id a) (s .entries)) f
       (insert-ordered 0 (entryOf (momentOf t) id a) (s .entries) (f .kept) (entry-in-range t id a r) zero-le)
@@ -124,7 +148,7 @@ module _ (su : Setup) (s : State) (f : Fits su s) where
 
 timed-gives : (su : Setup) (t : UnixTime) (o : Outcome State) → (InRange t → Gives su o) → Gives su (timed t o)
 unfolding timed
-timed-gives su t o h = either su (inRange t) _ o tt (λ e. h (time-judged t e))
+timed-gives su t o h = unless-gives su (inRange t) _ o tt (λ e. h (time-judged t e))
 
 module _ (su : Setup) (s : State) (f : Fits su s) where
   pub stored-gives : (t : UnixTime) (id a : ℕ) → Gives su (insertStoredIn su t id a s)
@@ -141,7 +165,7 @@ module _ (su : Setup) (s : State) (f : Fits su s) where
   unfolding activity
   activity-gives t tc (Unreadable y) r = tt
   activity-gives t tc (Packet h) r =
-      either su _ _ _ tt (λ e. entered-gives t (idWord (idOf h)) _ r (add-fits (su .store) (s .pools) (f .pools) (su .store .spill) tc))
+      unless-gives su _ _ _ tt (λ e. entered-gives t (idWord (idOf h)) _ r (add-fits (su .store) (s .pools) (f .pools) (su .store .spill) tc))
 
   pub unwrapped-gives : (t : UnixTime) (tc : List ℕ) → Gives su (insertUnwrappedIn su t tc s)
   unfolding insertUnwrappedIn
@@ -156,7 +180,7 @@ module _ (su : Setup) (s : State) (f : Fits su s) where
   unfolding opened
   opened-gives d (Unreadable y) b = tt
   opened-gives d (Packet h) b =
-      either su _ _ _ tt (λ x. either su _ _ _ tt (λ y. either su _ _ _ tt (λ z. stamped-gives d (stampOf d) (stamp-timely d b))))
+      unless-gives su _ _ _ tt (λ x. unless-gives su _ _ _ tt (λ y. unless-gives su _ _ _ tt (λ z. stamped-gives d (stampOf d) (stamp-timely d b))))
 
   pub wrapped-gives : (p : List ℕ) → Bytes p → Gives su (insertWrappedIn su p s)
   unfolding insertWrappedIn
@@ -203,8 +227,8 @@ module _ (su : Setup) (s : State) (f : Fits su s) where
   pub window-gives : (w : TimeWindow) → Gives su (deleteWindowIn w s)
   unfolding deleteWindowIn windowed
   window-gives w =
-      either su _ _ _ tt
-      (λ x. either su _ _ _ tt
+      unless-gives su _ _ _ tt
+      (λ x. unless-gives su _ _ _ tt
       (λ y. let n : length (outside (windowOf w) (s .entries)) ≤ length (s .entries) = filter-few _ (s .entries) in
       clear-gives (inWindow (windowOf w) (s .entries)) (outside (windowOf w) (s .entries)) (filter-ordered _ 0 (s .entries) (f .kept))
       (omega (arith, f .few))))
@@ -219,7 +243,7 @@ module _ (su : Setup) (s : State) (f : Fits su s) where
       → Gives su (takeIn id found s)
   unfolding takeIn
   take-gives id found h =
-      either su _ _ _ f
+      unless-gives su _ _ _ f
       (λ l. let v : victim id (s .entries) < length (s .entries) = ltb-true _ _ l in
       h _ _
       (with-entries su s (without (victim id (s .entries)) 1 (s .entries)) f (without-ordered 0 (victim id (s .entries)) 1 (s .entries) (f .kept))
@@ -244,9 +268,9 @@ by-id-gives su s f id = take-gives su s f id _ (λ a t g. freed-gives su t _ g (
 pub start-gives : (su : Setup) (room lens rows : ℕ) (clock : UnixTime) (margin : Margin) → Gives su (startIn su room lens rows clock margin)
 unfolding startIn orderedFrom
 start-gives su room lens rows clock margin =
-    either su _ _ _ tt
-    (λ x. either su _ _ _ tt
-    (λ y. either su _ _ _ tt
+    unless-gives su _ _ _ tt
+    (λ x. unless-gives su _ _ _ tt
+    (λ y. unless-gives su _ _ _ tt
     (λ z. record {
       pools = fresh-fits (su .store);
       kept = refl;

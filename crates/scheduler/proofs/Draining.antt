@@ -1,5 +1,5 @@
 -- Repeated ticks as requests: with limit k at least 1, nothing between them and room for k records of the largest slot size, no tick is
--- refused, and within d / k of them, rounded up, all d due entries are handed out.
+-- refused, and within d / k of them, rounded rounded-up, all d due entries are handed out.
 -- Assumes nothing.
 use Prim.Native.Nat.{_*_, _+_, _-_, _≤_, min, suc, zero, ℕ}
 use Rattle.record.specs.declared.Record.{Record}
@@ -8,7 +8,8 @@ use Rattle.schedule.proofs.Facts.{facts}
 use Rattle.schedule.specs.Judge.{Sound}
 use Rattle.schedule.specs.State.{State, stateOf, withEntries, withPools}
 use Rattle.schedule.specs.declared.Setup.{Setup}
-use Rattle.scheduler.specs.Steps.{Answer, Request, run, step, tick, ticked}
+use Rattle.scheduler.specs.Laws.{AllAmple, AllDone, ticks}
+use Rattle.scheduler.specs.Steps.{run, step, tick, ticked}
 use Rattle.slots.specs.Pools.{Pool}
 use Rattle.rows.specs.Entries.{Entry}
 use Rattle.tick.proofs.Lacking.{hands-out, lack-fits, lack-none}
@@ -17,10 +18,10 @@ use Rattle.tick.specs.Tick.{handedOut, tickIn, usable}
 use Rattle.time.specs.Time.{instant}
 use Rattle.turns.specs.Released.{firstTotal}
 use Rattle.turn.specs.Turns.{Handout, always, handout, leave}
-use Rattle.turns_laws.proofs.Drains.{one-hands, short-handout, up}
-use Rattle.turns_laws.proofs.Packets.{short-need, sound-short}
+use Rattle.turns_laws.proofs.Drains.{one-hands, short-handout, rounded-up}
+use Rattle.turns_laws.proofs.Packets.{Short, short-need, sound-short}
 use Rattle.turns_laws.proofs.Split.{left-due}
-use Rattle.turns_laws.specs.Draining.{Short, largestSlot, roomFor, roundedUp}
+use Rattle.turns_laws.specs.Draining.{largestSlot, roomFor, roundedUp}
 use Rattle.turns_laws.specs.Due.{due}
 use lib.ListN.{length}
 use mathlib.Core.Bool.{Bool}
@@ -28,21 +29,6 @@ use mathlib.Core.List.{List, [], _∷_}
 use mathlib.Core.Path.{_∙_, _≡_, ap, refl}
 use native.Mathlib.Nat.{mul-le-mul-right}
 use native.Mathlib.Omega.{arith}
-
--- a tick for each log that is lent
-abbrev pub ticks : ℕ → Bool → List (List ℕ) → List Request
-ticks k del [] = []
-ticks k del (log ∷ logs) = tick k del log ∷ ticks k del logs
-
--- the used part of each has room for k records with packets of `big` bytes
-abbrev pub AllAmple : ℕ → ℕ → List (List ℕ) → Type 0
-AllAmple k big [] = Unit {0}
-AllAmple k big (log ∷ logs) = (roomFor k big ≤ usable log) × AllAmple k big logs
-
--- none is a refusal
-abbrev pub AllDone : List Answer → Type 0
-AllDone [] = Unit {0}
-AllDone (a ∷ rest) = (a .paper .number ≡ 0) × AllDone rest
 
 module _ (su : Setup) (big k : ℕ) (del : Bool) (some : 1 ≤ k) where
   first-small : (es : List Entry) (ps : List Pool) → Short big ps → firstTotal es ps ≤ 29 + big
@@ -114,4 +100,4 @@ module _ (su : Setup) (r : Record) (st le ro : List ℕ) (s : Sound su r st le r
   pub all-handed-out : roundedUp (due (instant (r .clock)) (stateOf su r st le ro .entries)) k ≤ length logs
       → due (instant (r .clock)) (run su (ticks k del logs) (stateOf su r st le ro) .state .entries) ≡ 0
   unfolding stateOf
-  all-handed-out l = whole .left ∙ omega (arith, up (due (instant (r .clock)) (stateOf su r st le ro .entries)) k (length logs) some l)
+  all-handed-out l = whole .left ∙ omega (arith, rounded-up (due (instant (r .clock)) (stateOf su r st le ro .entries)) k (length logs) some l)

@@ -192,11 +192,11 @@ view-fits su st le s =
     })
 
 -- the part of it that the store's own laws speak of
-all-fit : (z : ℕ) (xs : List Slot) → SlotsFit z xs → AllFit z xs
-all-fit z [] h = tt
-all-fit z (free b ∷ xs) h = (tt, all-fit z xs (h .1))
-all-fit z (taken n b ∷ xs) h = (h .0 .1, all-fit z xs (h .1))
+slot-packets-fit : (z : ℕ) (xs : List Slot) → SlotsFit z xs → AllFit z xs
+slot-packets-fit z [] h = tt
+slot-packets-fit z (free b ∷ xs) h = (tt, slot-packets-fit z xs (h .1))
+slot-packets-fit z (taken n b ∷ xs) h = (h .0 .1, slot-packets-fit z xs (h .1))
 
-pub fitting : (su : Setup) (ps : List Pool) (k : ℕ) → PoolsFit su k ps → Fitting ps
-fitting su [] k h = tt
-fitting su (p ∷ ps) k h = (all-fit (p .size) (p .slots) (h .0 .slots), fitting su ps (suc k) (h .1))
+pub packets-fit : (su : Setup) (ps : List Pool) (k : ℕ) → PoolsFit su k ps → Fitting ps
+packets-fit su [] k h = tt
+packets-fit su (p ∷ ps) k h = (slot-packets-fit (p .size) (p .slots) (h .0 .slots), packets-fit su ps (suc k) (h .1))

@@ -66,10 +66,10 @@ own-numbered fine o h = record { most = own-most o h; undamaged = λ e. own-none
 pub into-numbered : {A B : Type 0} (fine : Bool) (f : A → B) (o : Outcome A) → Numbered fine (says o) → Numbered fine (says (into f o))
 into-numbered fine f o h = rw (into-says f o) h
 
-pub own-unless : {A : Type 0} (b : Bool) (p : Paper) (o : Outcome A) → 4 ≤ p .number → p .number ≤ 20 → Own o → Own (unless b (refused p) o)
+pub own-unless : {A : Type 0} (b : Bool) (bad o : Outcome A) → Own bad → Own o → Own (unless b bad o)
 unfolding unless
-own-unless true p o l m h = h
-own-unless false p o l m h = (l, m)
+own-unless true bad o h k = k
+own-unless false bad o h k = h
 
 -- ---- the store's calls
 
@@ -105,7 +105,7 @@ own-packet ps a = own-held a (find ps a) _ (λ n b. tt)
 
 pub own-read : (ps : List Pool) (a : ℕ) (buf : List ℕ) → Own (readIn ps a buf)
 unfolding readIn
-own-read ps a buf = own-held a (find ps a) _ (λ n b. own-unless _ _ _ (omega arith) (omega arith) tt)
+own-read ps a buf = own-held a (find ps a) _ (λ n b. own-unless _ _ _ (omega arith, omega arith) tt)
 
 pub own-has : (ps : List Pool) (a : ℕ) → Own (hasIn ps a)
 unfolding hasIn
@@ -117,19 +117,15 @@ own-len ps a = own-named a (find ps a) _ _ tt (λ n b. tt)
 
 -- ---- insertions
 
-pub own-count : (s : State) → Own (countIn s)
-unfolding countIn
-own-count s = tt
-
 module _ (su : Setup) where
   own-enter : (t : UnixTime) (id a : ℕ) (vs : List ℕ) (s : State) → Own (enter su t id a vs s)
   unfolding enter
   own-enter t id a vs s =
-      own-unless _ _ _ (omega arith) (omega arith) (own-unless _ _ _ (omega arith) (omega arith) tt)
+      own-unless _ _ _ (omega arith, omega arith) (own-unless _ _ _ (omega arith, omega arith) tt)
 
   own-timed : (t : UnixTime) (o : Outcome State) → Own o → Own (timed t o)
   unfolding timed
-  own-timed t o h = own-unless _ _ o (omega arith) (omega arith) h
+  own-timed t o h = own-unless _ _ o (omega arith, omega arith) h
 
   own-entered : (t : UnixTime) (id : ℕ) (s : State) (o : Outcome (List Pool)) → Own o → Own (entered su t id s o)
   unfolding entered
@@ -140,7 +136,7 @@ module _ (su : Setup) where
   unfolding activity
   own-activity t tc s (Unreadable f) = (omega arith, omega arith)
   own-activity t tc s (Packet h) =
-      own-unless _ _ _ (omega arith) (omega arith) (own-entered t _ s (addIn (su .store .spill) (s .pools) tc) (own-add _ (s .pools) tc))
+      own-unless _ _ _ (omega arith, omega arith) (own-entered t _ s (addIn (su .store .spill) (s .pools) tc) (own-add _ (s .pools) tc))
 
   own-stamped : (d : List ℕ) (s : State) (x : Stamp) → Own (stamped su d s x)
   unfolding stamped
@@ -151,8 +147,8 @@ module _ (su : Setup) where
   unfolding opened
   own-opened d s (Unreadable f) = (omega arith, omega arith)
   own-opened d s (Packet h) =
-      own-unless _ _ _ (omega arith) (omega arith)
-      (own-unless _ _ _ (omega arith) (omega arith) (own-unless _ _ _ (omega arith) (omega arith) (own-stamped d s (stampOf d))))
+      own-unless _ _ _ (omega arith, omega arith)
+      (own-unless _ _ _ (omega arith, omega arith) (own-unless _ _ _ (omega arith, omega arith) (own-stamped d s (stampOf d))))
 
   pub own-stored : (t : UnixTime) (id a : ℕ) (s : State) → Own (insertStoredIn su t id a s)
   unfolding insertStoredIn
@@ -166,11 +162,15 @@ module _ (su : Setup) where
   unfolding insertWrappedIn
   own-wrapped p s = own-opened (userDataOf 2 p) s (readOf 2 p)
 
--- ---- windows, deletions, the tick
+-- ---- count, windows, deletions, the tick
+
+pub own-count : (s : State) → Own (countIn s)
+unfolding countIn
+own-count s = tt
 
 own-windowed : {A : Type 0} (w : TimeWindow) (call : MomentWindow → Outcome A) → ((v : MomentWindow) → Own (call v)) → Own (windowed w call)
 unfolding windowed
-own-windowed w call h = own-unless _ _ _ (omega arith) (omega arith) (own-unless _ _ _ (omega arith) (omega arith) (h _))
+own-windowed w call h = own-unless _ _ _ (omega arith, omega arith) (own-unless _ _ _ (omega arith, omega arith) (h _))
 
 pub own-retrieve : (w : TimeWindow) (s : State) → Own (retrieveIn w s)
 unfolding retrieveIn
@@ -184,11 +184,6 @@ pub own-reset : (s : State) → Own (resetIn s)
 unfolding resetIn clearIn
 own-reset s = tt
 
-either : (b : Bool) (x y : Outcome State) → Own x → Own y → Own (unless b x y)
-unfolding unless
-either true x y h k = k
-either false x y h k = h
-
 own-freed : (s : State) (o : Outcome (List Pool)) → Own (freed s o)
 unfolding freed
 own-freed s (refused p) = tt
@@ -196,16 +191,16 @@ own-freed s (done vs ps) = tt
 
 pub own-keeping : (id : ℕ) (s : State) → Own (deleteKeepingIn id s)
 unfolding deleteKeepingIn takeIn
-own-keeping id s = either _ _ _ tt tt
+own-keeping id s = own-unless _ _ _ tt tt
 
 pub own-by-id : (id : ℕ) (s : State) → Own (deleteByIdIn id s)
 unfolding deleteByIdIn takeIn
-own-by-id id s = either _ _ _ tt (own-freed _ _)
+own-by-id id s = own-unless _ _ _ tt (own-freed _ _)
 
 pub own-tick : (limit : ℕ) (del : Bool) (log : List ℕ) (s : State) → Own (tickIn limit del log s)
 unfolding tickIn handedOut
 own-tick limit del log s =
-    own-unless _ _ _ (omega arith) (omega arith) (own-unless _ _ _ (omega arith) (omega arith) tt)
+    own-unless _ _ _ (omega arith, omega arith) (own-unless _ _ _ (omega arith, omega arith) tt)
 
 -- ---- the record's calls, which judge 3 by its clock and margin
 
@@ -219,7 +214,7 @@ times-numbered false o h = record { most = omega arith; undamaged = λ e. clash 
 
 pub clock-numbered : (t : UnixTime) (r : Record) → Numbered (timesInRange r) (says (clockIn t r))
 unfolding clockIn
-clock-numbered t r = times-numbered (timesInRange r) _ (own-unless _ _ _ (omega arith) (omega arith) tt)
+clock-numbered t r = times-numbered (timesInRange r) _ (own-unless _ _ _ (omega arith, omega arith) tt)
 
 pub mark-numbered : (on : Bool) (r : Record) → Numbered (timesInRange r) (says (markIn on r))
 unfolding markIn

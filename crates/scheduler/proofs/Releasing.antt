@@ -1,6 +1,6 @@
 -- The laws of the scheduler for the tick: it keeps a fitting state so, does what the step of its request says, keeps everything where
 -- it refuses, and has one outcome only.
-use Prim.Native.Nat.{ℕ}
+use Prim.Native.Nat.{_-_, ℕ}
 use Rattle.record.specs.declared.Record.{Record}
 use Rattle.rules.proofs.Order.{into-after, into-says, refusal-keeps}
 use Rattle.rules.specs.Papers.{Outcome, Paper, into, refused, says}
@@ -11,18 +11,22 @@ use Rattle.schedule.specs.State.{State, stateOf, withPools}
 use Rattle.schedule.specs.declared.Setup.{Setup}
 use Rattle.scheduler.proofs.Calls.{with-entries, with-pools}
 use Rattle.scheduler.proofs.OneOutcome.{one-outcome}
+use Rattle.scheduler.proofs.OneToOne.{one-ticked}
 use Rattle.scheduler.proofs.RefusalKeeps.{call-keeps}
 use Rattle.scheduler.proofs.Standing.{outcome-sound, outcome-state, sound-fits}
 use Rattle.scheduler.proofs.Subpools.{delete-fits}
 use Rattle.scheduler.specs.Fits.{Fits, Gives, PoolsFit}
 use Rattle.scheduler.specs.Laws.{Same, StepsAs}
 use Rattle.scheduler.specs.Steps.{step, tick, ticked}
+use Rattle.scheduler.specs.Words.{Inside}
 use Rattle.slots.specs.Pools.{Pool}
 use Rattle.layout.specs.declared.Setup.{Setup as StoreSetup}
 use Rattle.rows.proofs.Order.{drop-ordered}
 use Rattle.rows.specs.Entries.{Entry}
-use Rattle.tick.specs.Promise.{Ticks, left}
+use Rattle.tick.specs.declared.TickAnswer.the-variants as T
+use Rattle.tick.specs.Promise.{Ticks, left, tickPaper}
 use Rattle.tick.specs.Tick.{Logged, handedOut, tickIn, usable}
+use Rattle.tick.specs.declared.TickAnswer.{TickAnswer}
 use Rattle.time.specs.Time.{instant}
 use Rattle.store_laws.proofs.Wiped.{deleted-is}
 use Rattle.handing.specs.Handing.{afterAll}
@@ -41,10 +45,10 @@ unfolding leave
 leave-fits su false ps a f = f
 leave-fits su true ps a f = rw (deleted-is ps a) at (delete-fits su ps f a)
 
-all-fit : (su : StoreSetup) (del : Bool) (es : List Entry) (ps : List Pool) → PoolsFit su 0 ps → PoolsFit su 0 (afterAll (leave del) es ps)
+after-all-fits : (su : StoreSetup) (del : Bool) (es : List Entry) (ps : List Pool) → PoolsFit su 0 ps → PoolsFit su 0 (afterAll (leave del) es ps)
 unfolding afterAll
-all-fit su del [] ps f = f
-all-fit su del (e ∷ es) ps f = all-fit su del es (leave del ps (e .addr)) (leave-fits su del ps (e .addr) f)
+after-all-fits su del [] ps f = f
+after-all-fits su del (e ∷ es) ps f = after-all-fits su del es (leave del ps (e .addr)) (leave-fits su del ps (e .addr) f)
 
 module _ (su : Setup) (s : State) (f : Fits su s) (limit : ℕ) (del : Bool) (log : List ℕ) where
   out : Handout
@@ -56,7 +60,7 @@ module _ (su : Setup) (s : State) (f : Fits su s) (limit : ℕ) (del : Bool) (lo
       let x = splits (leave del) (always (s .enabled)) (instant (s .clock)) limit 8 (usable log) (s .entries) (s .pools) in
       let n = length (out .records) in
       with-entries su (withPools (out .pools) s) (out .left)
-      (with-pools su s (out .pools) f (rw (x .pools-are) (all-fit (su .store) del (take n (s .entries)) (s .pools) (f .pools))))
+      (with-pools su s (out .pools) f (rw (x .pools-are) (after-all-fits (su .store) del (take n (s .entries)) (s .pools) (f .pools))))
       (rw (x .left-is) (drop-ordered 0 n (s .entries) (f .kept)))
       (omega (arith, f .few, ap length (x .left-is), length-drop n (s .entries)))
 
@@ -104,6 +108,16 @@ module _ (su : Setup) (r : Record) (st le ro lo : List ℕ) (limit : ℕ) (del :
       → Ticks su r st le ro lo (judging su r st le ro (tickIn limit del lo)) q r″ st″ le″ ro″ lo″
       → (p ≡ q) × Same r″ r′ st″ st′ le″ le′ ro″ ro′ × (lo′ ≡ lo″)
   one-tick q r″ st″ le″ ro″ lo″ v =
-      let s = one-outcome su r st le ro p q r′ r″ st′ le′ ro′ st″ le″ ro″ (left (judging su r st le ro (tickIn limit del lo)))
-      (w .tables) (v .tables) in
+      let o : Outcome State = left (judging su r st le ro (tickIn limit del lo)) in
+      let s = one-outcome su r st le ro p q r′ r″ st′ le′ ro′ st″ le″ ro″ o (w .tables) (v .tables) in
       (s .0, s .1, w .log ∙ sym (v .log))
+
+-- and by the answers themselves
+pub one-tick-answer : (su : Setup) (r : Record) (st le ro lo : List ℕ) (limit : ℕ) (del : Bool) (a b : TickAnswer)
+    → Inside T.Refused a → Inside T.Refused b → (r₁ r₂ : Record) (st₁ le₁ ro₁ lo₁ st₂ le₂ ro₂ lo₂ : List ℕ)
+    → Ticks su r st le ro lo (judging su r st le ro (tickIn limit del lo)) (tickPaper a) r₁ st₁ le₁ ro₁ lo₁
+    → Ticks su r st le ro lo (judging su r st le ro (tickIn limit del lo)) (tickPaper b) r₂ st₂ le₂ ro₂ lo₂
+    → (a ≡ b) × Same r₂ r₁ st₂ st₁ le₂ le₁ ro₂ ro₁ × (lo₁ ≡ lo₂)
+one-tick-answer su r st le ro lo limit del a b i j r₁ r₂ st₁ le₁ ro₁ lo₁ st₂ le₂ ro₂ lo₂ w v =
+    let e = one-tick su r st le ro lo limit del (tickPaper a) r₁ st₁ le₁ ro₁ lo₁ w (tickPaper b) r₂ st₂ le₂ ro₂ lo₂ v in
+    (one-ticked a b i j (e .0), e .1, e .2)

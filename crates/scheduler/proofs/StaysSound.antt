@@ -1,9 +1,8 @@
 -- A sound scheduler stays sound: every request keeps a fitting state so, and every public call keeps record and lent lists sound, from
 -- a fresh start on. Call by call it is the field `sound` of the laws in Stepping.
 use Prim.Native.Nat.{ℕ}
-use Rattle.record.specs.Record.{clockIn, markIn, timesInRange, withClock, withMark}
 use Rattle.record.specs.declared.Record.{Record}
-use Rattle.rules.proofs.All.{all-each, and-right, each-all}
+use Rattle.rules.proofs.All.{all-each, each-all}
 use Rattle.rules.proofs.Order.{into-after}
 use Rattle.rules.specs.Papers.{Outcome, Paper, after, done, no, refused, says}
 use Rattle.rules.specs.Tests.{unless}
@@ -11,9 +10,9 @@ use Rattle.schedule.proofs.Promises.{judging-fine, writes}
 use Rattle.schedule.specs.Judge.{Sound, buffersOk, judging, setupOk, stateOk}
 use Rattle.schedule.specs.Promise.{Does, Writes}
 use Rattle.schedule.specs.Starting.{Starts, freshState, startIn}
-use Rattle.schedule.specs.State.{State, stateOf}
+use Rattle.schedule.specs.State.{State, recordOf, stateOf}
 use Rattle.schedule.specs.declared.Setup.{Setup}
-use Rattle.scheduler.proofs.Calls.{add-gives, by-id-gives, clock-gives, delete-gives, gives-after, keeping-gives, mark-gives, modify-gives, reset-gives, start-gives, stored-gives, unwrapped-gives, window-gives, wrapped-gives}
+use Rattle.scheduler.proofs.Calls.{StaysTimed, add-gives, by-id-gives, clock-timed, delete-gives, gives-after, keeping-gives, mark-timed, modify-gives, record-gives, reset-gives, start-gives, stored-gives, unwrapped-gives, window-gives, wrapped-gives}
 use Rattle.scheduler.proofs.Releasing.{tick-gives}
 use Rattle.scheduler.proofs.Standing.{laid-sound, laid-state, outcome-sound, sound-fits}
 use Rattle.scheduler.specs.Fits.{AllOfBytes, Fits, Gives, OfBytes}
@@ -21,7 +20,6 @@ use Rattle.scheduler.specs.Steps.{Request, add, carried, count, delete, 
 use Rattle.layout.specs.Judge.{Sound as StoreSound}
 use Rattle.tick.specs.Promise.{left}
 use Rattle.tick.specs.Tick.{Logged, tickIn}
-use Rattle.time.specs.Time.{inRange, marginInRange}
 use Rattle.time.specs.declared.Margin.{Margin}
 use Rattle.time.specs.declared.UnixTime.{UnixTime}
 use lib.ListN.{length}
@@ -41,9 +39,9 @@ step-stays su (modify a d) s o f = gives-after su s _ f (modify-gives su s f a d
 step-stays su (delete a) s o f = gives-after su s _ f (delete-gives su s f a)
 step-stays su (hasElementAt a) s o f = f
 step-stays su (lenOfData a) s o f = f
-step-stays su (setClock t) s o f = gives-after su s _ f (clock-gives su s f t)
-step-stays su enable s o f = gives-after su s _ f (mark-gives su s f true)
-step-stays su disable s o f = gives-after su s _ f (mark-gives su s f false)
+step-stays su (setClock t) s o f = gives-after su s _ f (record-gives su s f _ (clock-timed t (recordOf s)))
+step-stays su enable s o f = gives-after su s _ f (record-gives su s f _ (mark-timed true (recordOf s)))
+step-stays su disable s o f = gives-after su s _ f (record-gives su s f _ (mark-timed false (recordOf s)))
 step-stays su count s o f = f
 step-stays su (insertWrapped p) s o f = gives-after su s _ f (wrapped-gives su s f p (o p refl))
 step-stays su (insertUnwrapped t p) s o f = gives-after su s _ f (unwrapped-gives su s f t p)
@@ -83,35 +81,17 @@ module _ (su : Setup) (r : Record) (st le ro : List ℕ) (s : Sound su r st le r
   judged-stays call k d = call-stays call k (writes su r st le ro call p r′ st′ le′ ro′ s d)
 
 -- the record's own calls: setting the clock, enable, disable
-with-record : (su : Setup) (r r′ : Record) (st le ro : List ℕ) → Sound su r st le ro → r′ .count ≡ r .count → timesInRange r′ ≡ true
-    → Sound su r′ st le ro
+pub record-stays : (su : Setup) (r r′ : Record) (st le ro : List ℕ) → Sound su r st le ro → StaysTimed r r′ → Sound su r′ st le ro
 unfolding stateOk
-with-record su r r′ st le ro s e t =
+record-stays su r r′ st le ro s h =
     let d = all-each _ (s .state) in
-    record { setup = s .setup; buffers = s .buffers; state = each-all _ (rw e (d .0), (t, (rw e (d .1 .1 .0), (d .1 .1 .1 .0, tt)))) }
-
-module _ (su : Setup) (r : Record) (st le ro : List ℕ) (s : Sound su r st le ro) where
-  times : timesInRange r ≡ true
-  unfolding stateOk
-  times = all-each _ (s .state) .1 .0
-
-  pub clock-stays : (t : UnixTime) → Sound su (after (clockIn t r) r (λ x. x)) st le ro
-  unfolding clockIn unless after
-  clock-stays t = go (timesInRange r) (inRange t) refl
-    where
-      go : (a b : Bool) → inRange t ≡ b
-          → Sound su (after (unless a (refused (no 3 [])) (unless b (refused (no 4 [])) (done [] (withClock t r)))) r (λ x. x)) st le ro
-      go false b e = s
-      go true false e = s
-      go true true e = with-record su r (withClock t r) st le ro s refl (rw e (and-right (inRange (r .clock)) (marginInRange (r .margin)) times))
-
-  pub mark-stays : (on : Bool) → Sound su (after (markIn on r) r (λ x. x)) st le ro
-  unfolding markIn unless after
-  mark-stays on = go (timesInRange r)
-    where
-      go : (a : Bool) → Sound su (after (unless a (refused (no 3 [])) (done [] (withMark on r))) r (λ x. x)) st le ro
-      go false = s
-      go true = with-record su r (withMark on r) st le ro s refl times
+    record {
+      setup = s .setup;
+      buffers = s .buffers;
+      state =
+          each-all _
+          (rw (h .same-count) (d .0), (h .in-range (d .1 .0), (rw (h .same-count) (d .1 .1 .0), (d .1 .1 .1 .0, tt))));
+    }
 
 -- the store's own calls on the scheduler's store, which keep the store sound (store_laws, StaysSound)
 pub store-stays : (su : Setup) (r : Record) (st le ro st′ le′ : List ℕ) → Sound su r st le ro → StoreSound (su .store) st′ le′ → Sound su r st′ le′ ro

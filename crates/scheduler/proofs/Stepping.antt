@@ -1,117 +1,56 @@
 -- A public call on a sound scheduler does what the step of its request says, and leaves the scheduler sound.
 use Prim.Native.Nat.{ℕ}
-use Rattle.deletions.specs.Deleting.{deleteWindowIn, resetIn}
-use Rattle.by_id.specs.ById.{deleteByIdIn, deleteKeepingIn}
-use Rattle.windows.specs.Windowing.{retrieveIn}
-use Rattle.windows.specs.declared.TimeWindow.{TimeWindow}
-use Rattle.insertions.specs.Inserting.{insertUnwrappedIn}
-use Rattle.gate.specs.Entering.{insertStoredIn}
-use Rattle.wrapped.specs.Wrapped.{insertWrappedIn}
-use Rattle.record.specs.Record.{clockIn, markIn, timesInRange, withClock, withMark}
+use Rattle.record.specs.Record.{clockIn, markIn}
 use Rattle.record.specs.declared.Record.{Record}
 use Rattle.rules.proofs.Order.{into-says}
 use Rattle.rules.specs.Papers.{Outcome, Paper, after, done, into, no, refused, says}
-use Rattle.rules.specs.Tests.{unless}
 use Rattle.schedule.proofs.Facts.{facts}
 use Rattle.schedule.proofs.Promises.{judging-fine, record-same}
-use Rattle.schedule.specs.Counting.{countIn}
 use Rattle.schedule.specs.Judge.{Sound, judging}
 use Rattle.schedule.specs.Promise.{Writes}
 use Rattle.schedule.specs.State.{State, recordOf, stateOf, withPools}
 use Rattle.schedule.specs.declared.Setup.{Setup}
-use Rattle.scheduler.proofs.Calls.{by-id-gives, keeping-gives, reset-gives, stored-gives, unwrapped-gives, window-gives, wrapped-gives}
+use Rattle.scheduler.proofs.Calls.{StaysTimed, after-gives, clock-timed, mark-timed}
 use Rattle.scheduler.proofs.Standing.{outcome-state, sound-fits}
-use Rattle.scheduler.proofs.StaysSound.{call-stays, clock-stays, mark-stays, store-stays}
-use Rattle.scheduler.specs.Fits.{Bytes, Fits, Gives}
+use Rattle.scheduler.proofs.StaysSound.{call-stays, record-stays, step-stays, store-stays}
+use Rattle.scheduler.specs.Fits.{Fits, Gives, OfBytes}
 use Rattle.scheduler.specs.Laws.{StepsAs}
-use Rattle.scheduler.specs.Steps.{Request, add, carried, count, delete, deleteById, deleteKeeping, deleteWindow, disable, enable, hasElementAt, insertStored, insertUnwrapped, insertWrapped, lenOfData, looked, modify, ofPools, ofRecord, read, reset, retrieve, setClock, step, withRecord}
-use Rattle.lookup.proofs.Judging.{judging-fine as store-judging-fine}
+use Rattle.scheduler.specs.Steps.{Request, add, carried, count, delete, disable, enable, modify, ofPools, ofRecord, setClock, step, withRecord}
 use Rattle.store.specs.Calls.{addIn, deleteIn}
-use Rattle.lookup.specs.Calls.{hasIn, ifHeld, ifNamed, judging as storeJudging, lenIn, packetIn, readIn}
+use Rattle.lookup.specs.Calls.{ifHeld, ifNamed, judging as storeJudging, packetIn}
 use Rattle.layout.specs.Judge.{Sound as StoreSound}
 use Rattle.slots.specs.Pools.{Pool, find, held}
 use Rattle.store.specs.Promise.{Writes as StoreWrites}
-use Rattle.lookup.specs.Promise.{Reads, packetStart}
+use Rattle.lookup.specs.Promise.{packetStart}
 use Rattle.slots.specs.View.{Leaves, put, view}
 use Rattle.store_laws.proofs.Reached.{add-done, delete-done, modify-leaves}
 use Rattle.store_laws.proofs.StaysSound.{modify-stays, public-add-stays, public-delete-stays}
 use Rattle.rows.specs.Entries.{unpack}
-use Rattle.time.specs.Time.{inRange}
 use Rattle.time.specs.declared.UnixTime.{UnixTime}
 use lib.ListN.{length}
-use mathlib.Core.Bool.{Bool, false, true}
+use mathlib.Core.Bool.{false, true}
 use mathlib.Core.List.{List, [], _∷_}
 use mathlib.Core.Path.{_∙_, _≡_, ap, refl, sym}
 
 -- ---- insertions and deletions
 
-module _ (su : Setup) (r : Record) (st le ro : List ℕ) (s : Sound su r st le ro) (p : Paper) (r′ : Record) (st′ le′ ro′ : List ℕ) where
-  does-step : (q : Request) (call : State → Outcome State) → ((x : State) → Fits su x → Gives su (call x))
-      → ((x : State) → step su q x ≡ carried x (call x)) → Writes su r st le ro (judging su r st le ro call) p r′ st′ le′ ro′
-      → StepsAs su r st le ro q p r′ st′ le′ ro′
-  unfolding carried
-  does-step q call k e w =
-      let v = rw (judging-fine su r st le ro call s) at w in
-      let g = k _ (sound-fits su r st le ro s) in
-      record {
-        sound = call-stays su r st le ro s p r′ st′ le′ ro′ call k w;
-        answer = rw e (v .answer);
-        state = rw e (outcome-state su r st le ro s p r′ st′ le′ ro′ (call (stateOf su r st le ro)) g v);
-      }
-
-  pub stored-steps : (t : UnixTime) (id a : ℕ) → Writes su r st le ro (judging su r st le ro (insertStoredIn su t id a)) p r′ st′ le′ ro′
-      → StepsAs su r st le ro (insertStored t id a) p r′ st′ le′ ro′
-  unfolding step
-  stored-steps t id a w = does-step (insertStored t id a) (insertStoredIn su t id a) (λ x f. stored-gives su x f t id a) (λ x. refl) w
-
-  pub unwrapped-steps : (t : UnixTime) (tc : List ℕ) → Writes su r st le ro (judging su r st le ro (insertUnwrappedIn su t tc)) p r′ st′ le′ ro′
-      → StepsAs su r st le ro (insertUnwrapped t tc) p r′ st′ le′ ro′
-  unfolding step
-  unwrapped-steps t tc w = does-step (insertUnwrapped t tc) (insertUnwrappedIn su t tc) (λ x f. unwrapped-gives su x f t tc) (λ x. refl) w
-
-  pub wrapped-steps : (tc : List ℕ) → Bytes tc → Writes su r st le ro (judging su r st le ro (insertWrappedIn su tc)) p r′ st′ le′ ro′
-      → StepsAs su r st le ro (insertWrapped tc) p r′ st′ le′ ro′
-  unfolding step
-  wrapped-steps tc b w = does-step (insertWrapped tc) (insertWrappedIn su tc) (λ x f. wrapped-gives su x f tc b) (λ x. refl) w
-
-  pub window-steps : (v : TimeWindow) → Writes su r st le ro (judging su r st le ro (deleteWindowIn v)) p r′ st′ le′ ro′
-      → StepsAs su r st le ro (deleteWindow v) p r′ st′ le′ ro′
-  unfolding step
-  window-steps v w = does-step (deleteWindow v) (deleteWindowIn v) (λ x f. window-gives su x f v) (λ x. refl) w
-
-  pub reset-steps : Writes su r st le ro (judging su r st le ro resetIn) p r′ st′ le′ ro′ → StepsAs su r st le ro reset p r′ st′ le′ ro′
-  unfolding step
-  reset-steps w = does-step reset resetIn (λ x f. reset-gives su x f) (λ x. refl) w
-
-  pub keeping-steps : (id : ℕ) → Writes su r st le ro (judging su r st le ro (deleteKeepingIn id)) p r′ st′ le′ ro′
-      → StepsAs su r st le ro (deleteKeeping id) p r′ st′ le′ ro′
-  unfolding step
-  keeping-steps id w = does-step (deleteKeeping id) (deleteKeepingIn id) (λ x f. keeping-gives su x f id) (λ x. refl) w
-
-  pub by-id-steps : (id : ℕ) → Writes su r st le ro (judging su r st le ro (deleteByIdIn id)) p r′ st′ le′ ro′
-      → StepsAs su r st le ro (deleteById id) p r′ st′ le′ ro′
-  unfolding step
-  by-id-steps id w = does-step (deleteById id) (deleteByIdIn id) (λ x f. by-id-gives su x f id) (λ x. refl) w
+-- any call that changes the state as the step of its request does
+pub call-steps : (su : Setup) (r : Record) (st le ro : List ℕ) → Sound su r st le ro → (p : Paper) (r′ : Record) (st′ le′ ro′ : List ℕ)
+    → (q : Request) → OfBytes q → (call : State → Outcome State) → ((x : State) → step su q x ≡ carried x (call x))
+    → Writes su r st le ro (judging su r st le ro call) p r′ st′ le′ ro′ → StepsAs su r st le ro q p r′ st′ le′ ro′
+unfolding carried
+call-steps su r st le ro s p r′ st′ le′ ro′ q o call e w =
+    let v = rw (judging-fine su r st le ro call s) at w in
+    record {
+      sound = call-stays su r st le ro s p r′ st′ le′ ro′ call gives w;
+      answer = rw e (v .answer);
+      state = rw e (outcome-state su r st le ro s p r′ st′ le′ ro′ (call (stateOf su r st le ro)) (gives _ (sound-fits su r st le ro s)) v);
+    }
+  where
+    gives : (x : State) → Fits su x → Gives su (call x)
+    gives x f = after-gives su x (call x) (rw e at (step-stays su q x o f))
 
 -- ---- the record's own calls, in place or by value
-
-times-after : (t : UnixTime) (r : Record) → after (clockIn t r) r (λ x. x) .count ≡ r .count
-unfolding clockIn unless after
-times-after t r = go (timesInRange r) (inRange t)
-  where
-    go : (a b : Bool)
-        → after (unless a (refused (no 3 [])) (unless b (refused (no 4 [])) (done [] (withClock t r)))) r (λ x. x) .count ≡ r .count
-    go false b = refl
-    go true false = refl
-    go true true = refl
-
-mark-after : (on : Bool) (r : Record) → after (markIn on r) r (λ x. x) .count ≡ r .count
-unfolding markIn unless after
-mark-after on r = go (timesInRange r)
-  where
-    go : (a : Bool) → after (unless a (refused (no 3 [])) (done [] (withMark on r))) r (λ x. x) .count ≡ r .count
-    go false = refl
-    go true = refl
 
 module _ (su : Setup) (r : Record) (st le ro : List ℕ) (s : Sound su r st le ro) (p : Paper) (r′ : Record) where
   record-after : (o : Outcome Record) → after (ofRecord (stateOf su r st le ro) o) (stateOf su r st le ro) (λ t. t)
@@ -132,33 +71,27 @@ module _ (su : Setup) (r : Record) (st le ro : List ℕ) (s : Sound su r st le r
 
   record-step : (q : Request) (o : Outcome Record)
       → step su q (stateOf su r st le ro) ≡ carried (stateOf su r st le ro) (ofRecord (stateOf su r st le ro) o)
-      → Sound su (after o r (λ x. x)) st le ro → after o r (λ x. x) .count ≡ r .count → p ≡ says o → r′ ≡ after o r (λ x. x)
-      → StepsAs su r st le ro q p r′ st le ro
+      → StaysTimed r (after o r (λ x. x)) → p ≡ says o → r′ ≡ after o r (λ x. x) → StepsAs su r st le ro q p r′ st le ro
   unfolding carried
-  record-step q o e k n a b =
+  record-step q o e k a b =
       record {
-        sound = rw b k;
+        sound = rw b (record-stays su r _ st le ro s k);
         answer = rw e (a ∙ sym (into-says (withRecord (stateOf su r st le ro)) o));
-        state = rw (e, b) (record-state (after o r (λ x. x)) n ∙ sym (record-after o));
+        state = rw (e, b) (record-state (after o r (λ x. x)) (k .same-count) ∙ sym (record-after o));
       }
 
-  pub clock-steps : (t : UnixTime) → p ≡ says (clockIn t r) → r′ ≡ after (clockIn t r) r (λ x. x) → StepsAs su r st le ro (setClock t) p r′ st le ro
+  pub clock-steps : (t : UnixTime) → p ≡ says (clockIn t r) → r′ ≡ after (clockIn t r) r (λ x. x)
+      → StepsAs su r st le ro (setClock t) p r′ st le ro
   unfolding step
-  clock-steps t a b =
-      record-step (setClock t) (clockIn t r) (as-record (clockIn t))
-      (clock-stays su r st le ro s t) (times-after t r) a b
+  clock-steps t a b = record-step (setClock t) (clockIn t r) (as-record (clockIn t)) (clock-timed t r) a b
 
   pub enable-steps : p ≡ says (markIn true r) → r′ ≡ after (markIn true r) r (λ x. x) → StepsAs su r st le ro enable p r′ st le ro
   unfolding step
-  enable-steps a b =
-      record-step enable (markIn true r) (as-record (markIn true))
-      (mark-stays su r st le ro s true) (mark-after true r) a b
+  enable-steps a b = record-step enable (markIn true r) (as-record (markIn true)) (mark-timed true r) a b
 
   pub disable-steps : p ≡ says (markIn false r) → r′ ≡ after (markIn false r) r (λ x. x) → StepsAs su r st le ro disable p r′ st le ro
   unfolding step
-  disable-steps a b =
-      record-step disable (markIn false r) (as-record (markIn false))
-      (mark-stays su r st le ro s false) (mark-after false r) a b
+  disable-steps a b = record-step disable (markIn false r) (as-record (markIn false)) (mark-timed false r) a b
 
 -- ---- the store's own calls, on the scheduler's store
 
@@ -218,40 +151,3 @@ modify-steps su r st le ro s a n raw ys q e =
       answer = rw q;
       state = rw q (pools-state su r st le ro s (no 0 []) _ le _ l);
     }
-
--- ---- the calls that only look
-
-module _ (su : Setup) (r : Record) (st le ro : List ℕ) (s : Sound su r st le ro) (p : Paper) where
-  pub count-tells : p ≡ says (judging su r st le ro countIn) → p ≡ step su count (stateOf su r st le ro) .answer .paper
-  unfolding step looked
-  count-tells e = rw (judging-fine su r st le ro countIn s) at e
-
-  pub retrieve-tells : (w : TimeWindow) → p ≡ says (judging su r st le ro (retrieveIn w))
-      → p ≡ step su (retrieve w) (stateOf su r st le ro) .answer .paper
-  unfolding step looked
-  retrieve-tells w e = rw (judging-fine su r st le ro (retrieveIn w) s) at e
-
-  pub has-tells : (a : ℕ) → p ≡ says (storeJudging (su .store) st le (λ ps. hasIn ps a))
-      → p ≡ step su (hasElementAt a) (stateOf su r st le ro) .answer .paper
-  unfolding step looked stateOf
-  has-tells a e = rw (store-judging-fine (su .store) st le (λ ps. hasIn ps a) (facts s .store)) at e
-
-  pub len-tells : (a : ℕ) → p ≡ says (storeJudging (su .store) st le (λ ps. lenIn ps a))
-      → p ≡ step su (lenOfData a) (stateOf su r st le ro) .answer .paper
-  unfolding step looked stateOf
-  len-tells a e = rw (store-judging-fine (su .store) st le (λ ps. lenIn ps a) (facts s .store)) at e
-
-  -- `modify` itself, which answers and writes nothing
-  pub modify-tells : (a : ℕ) (d : List ℕ) → p ≡ says (storeJudging (su .store) st le (λ ps. packetIn ps a))
-      → p ≡ step su (modify a d) (stateOf su r st le ro) .answer .paper
-  unfolding step carried stateOf
-  modify-tells a d e =
-      let v = rw (store-judging-fine (su .store) st le (λ ps. packetIn ps a) (facts s .store)) at e in
-      v ∙ sym (into-says _ (packetIn (view (su .store) st le) a))
-
-  pub read-tells : (a : ℕ) (buf buf′ : List ℕ) → Reads (storeJudging (su .store) st le (λ ps. readIn ps a buf)) buf p buf′
-      → (p ≡ step su (read a buf) (stateOf su r st le ro) .answer .paper) × (buf′ ≡ step su (read a buf) (stateOf su r st le ro) .answer .buffer)
-  unfolding step looked stateOf
-  read-tells a buf buf′ w =
-      let v = rw (store-judging-fine (su .store) st le (λ ps. readIn ps a buf) (facts s .store)) at w in
-      (v .answer, v .buffer)

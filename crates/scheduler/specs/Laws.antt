@@ -1,13 +1,16 @@
--- What the laws say: demand 1, of steps; and of record and lent lists, that they are as they were, and that a call did what the step of its
--- request says.
+-- What the laws say: demand 1, of steps; of record and lent lists, that they are as they were, and that a call did what the step of its
+-- request says; and repeated ticks as requests.
 use Prim.Native.Nat.{_≤_, ℕ}
 use Rattle.record.specs.declared.Record.{Record}
 use Rattle.rules.specs.Papers.{Paper}
 use Rattle.schedule.specs.Judge.{Sound}
 use Rattle.schedule.specs.State.{State, stateOf}
 use Rattle.schedule.specs.declared.Setup.{Setup}
-use Rattle.scheduler.specs.Steps.{Answer, Request, bufferOf, step}
-use mathlib.Core.List.{List}
+use Rattle.scheduler.specs.Steps.{Answer, Request, bufferOf, step, tick}
+use Rattle.tick.specs.Tick.{usable}
+use Rattle.turns_laws.specs.Draining.{roomFor}
+use mathlib.Core.Bool.{Bool}
+use mathlib.Core.List.{List, [], _∷_}
 use mathlib.Core.Path.{_≡_}
 
 -- Demand 1, of an answer to a call that was lent a buffer and found what was there: its number is 0 or one of the table's, 1 to 20; and where
@@ -33,3 +36,18 @@ pub record StepsAs (su : Setup) (r : Record) (st le ro : List ℕ) (q : Request)
   pub sound : Sound su r′ st′ le′ ro′
   pub answer : p ≡ step su q (stateOf su r st le ro) .answer .paper
   pub state : stateOf su r′ st′ le′ ro′ ≡ step su q (stateOf su r st le ro) .state
+
+-- a tick for each log that is lent
+abbrev pub ticks : ℕ → Bool → List (List ℕ) → List Request
+ticks k del [] = []
+ticks k del (log ∷ logs) = tick k del log ∷ ticks k del logs
+
+-- the used part of each has room for k records with packets of `big` bytes
+abbrev pub AllAmple : ℕ → ℕ → List (List ℕ) → Type 0
+AllAmple k big [] = Unit {0}
+AllAmple k big (log ∷ logs) = (roomFor k big ≤ usable log) × AllAmple k big logs
+
+-- none is a refusal
+abbrev pub AllDone : List Answer → Type 0
+AllDone [] = Unit {0}
+AllDone (a ∷ rest) = (a .paper .number ≡ 0) × AllDone rest

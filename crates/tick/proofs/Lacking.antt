@@ -2,19 +2,19 @@
 -- Assumes nothing.
 use Prim.Native.Nat.{_<_, _≤_, min, ℕ}
 use borrow.Author.Tests.{le-leb, le-ltb, lt-leb, lt-ltb, ltb-false, ltb-true}
-use lib.Dec.{ltb}
+use lib.Dec.{leb, ltb}
 use lib.ListN.{length}
 use mathlib.Core.Bool.{Bool, false, not, true}
 use mathlib.Core.List.{List, [], _∷_}
-use mathlib.Core.Path.{_≡_, refl}
+use mathlib.Core.Path.{_∙_, _≡_, refl}
 use native.Mathlib.Omega.{arith}
-use Rattle.rules.specs.Papers.{no, refused}
+use Rattle.rules.specs.Papers.{Outcome, no, refused}
 use Rattle.rules.specs.Tests.{allOf, unless}
 use Rattle.schedule.specs.State.{State}
 use Rattle.slots.specs.Pools.{Pool}
 use Rattle.rows.specs.Entries.{Entry}
 use Rattle.tick.specs.Inside.{lack}
-use Rattle.tick.specs.Tick.{firstLacks, handedOut, tickIn, usable}
+use Rattle.tick.specs.Tick.{Logged, firstLacks, handedOut, tickIn, usable}
 use Rattle.time.specs.Time.{instant}
 use Rattle.turn.specs.Turns.{always, handout, leave}
 use Rattle.turns.specs.Released.{firstTotal}
@@ -53,34 +53,31 @@ module _ (limit : ℕ) (delete : Bool) (log : List ℕ) (s : State) where
   unfolding tickIn unless
   short-log h = rw (lt-leb 8 (length log) h)
 
-  abbrev allowed : ℕ
-  allowed = min (due (instant (s .clock)) (s .entries)) limit
+  abbrev out : Outcome Logged
+  out = handedOut log s (handout (leave delete) (always (s .enabled)) (instant (s .clock)) limit 8 (usable log) (s .entries) (s .pools))
 
-  pub lacks-first : (t : ℕ) → 8 ≤ length log → t ≡ lack allowed (usable log) (s .entries) (s .pools) → 0 < t
-      → tickIn limit delete log s ≡ refused (no 20 (t ∷ []))
-  unfolding tickIn firstLacks lack unless
-  lacks-first t h e l =
-      rw (le-leb 8 (length log) h, both (due (instant (s .clock)) (s .entries)) limit (ltb (usable log) (firstTotal (s .entries) (s .pools))))
-      (go (allOf (ltb 0 allowed ∷ ltb (usable log) (firstTotal (s .entries) (s .pools)) ∷ [])) e)
-    where
-      go : (b : Bool) → t ≡ unless (not b) (firstTotal (s .entries) (s .pools)) 0
-          → unless (not b) (refused (no 20 (firstTotal (s .entries) (s .pools) ∷ [])))
-          (handedOut log s (handout (leave delete) (always (s .enabled)) (instant (s .clock)) limit 8 (usable log) (s .entries) (s .pools)))
-          ≡ refused (no 20 (t ∷ []))
-      go true q = rw q
-      go false q = absurd (omega arith)
+  module _ (t : ℕ) (h : 8 ≤ length log)
+      (e : t ≡ lack (min (due (instant (s .clock)) (s .entries)) limit) (usable log) (s .entries) (s .pools)) where
+    -- by what the code finds
+    by-lack : tickIn limit delete log s ≡ unless (leb t 0) (refused (no 20 (t ∷ []))) out
+    unfolding tickIn firstLacks lack unless
+    by-lack =
+        rw (
+          le-leb 8 (length log) h,
+          both (due (instant (s .clock)) (s .entries)) limit (ltb (usable log) (firstTotal (s .entries) (s .pools))),
+          e,
+        )
+        (go (allOf (ltb 0 (min (due (instant (s .clock)) (s .entries)) limit) ∷ ltb (usable log) (firstTotal (s .entries) (s .pools)) ∷ [])))
+      where
+        go : (b : Bool) → let n : ℕ = unless (not b) (firstTotal (s .entries) (s .pools)) 0 in
+            unless (not b) (refused (no 20 (firstTotal (s .entries) (s .pools) ∷ []))) out ≡ unless (leb n 0) (refused (no 20 (n ∷ []))) out
+        go true = rw (lt-leb (firstTotal (s .entries) (s .pools)) 0 (first-pos (s .entries) (s .pools)))
+        go false = refl
 
-  pub hands-out : (t : ℕ) → 8 ≤ length log → t ≡ lack allowed (usable log) (s .entries) (s .pools) → t ≤ 0
-      → tickIn limit delete log s
-      ≡ handedOut log s (handout (leave delete) (always (s .enabled)) (instant (s .clock)) limit 8 (usable log) (s .entries) (s .pools))
-  unfolding tickIn firstLacks lack unless
-  hands-out t h e l =
-      rw (le-leb 8 (length log) h, both (due (instant (s .clock)) (s .entries)) limit (ltb (usable log) (firstTotal (s .entries) (s .pools))))
-      (go (allOf (ltb 0 allowed ∷ ltb (usable log) (firstTotal (s .entries) (s .pools)) ∷ [])) e)
-    where
-      go : (b : Bool) → t ≡ unless (not b) (firstTotal (s .entries) (s .pools)) 0
-          → unless (not b) (refused (no 20 (firstTotal (s .entries) (s .pools) ∷ [])))
-          (handedOut log s (handout (leave delete) (always (s .enabled)) (instant (s .clock)) limit 8 (usable log) (s .entries) (s .pools)))
-          ≡ handedOut log s (handout (leave delete) (always (s .enabled)) (instant (s .clock)) limit 8 (usable log) (s .entries) (s .pools))
-      go true q = absurd (omega (arith, first-pos (s .entries) (s .pools)))
-      go false q = refl
+    pub lacks-first : 0 < t → tickIn limit delete log s ≡ refused (no 20 (t ∷ []))
+    unfolding unless
+    lacks-first l = by-lack ∙ rw (lt-leb t 0 l)
+
+    pub hands-out : t ≤ 0 → tickIn limit delete log s ≡ out
+    unfolding unless
+    hands-out l = by-lack ∙ rw (le-leb t 0 l)

@@ -111,22 +111,17 @@ module _ (su : Setup) (r : Record) (st le ro log : List ℕ) (limit : ℕ) (dele
       unfolding next stateOf
       record-is = rw length-left
 
-      handed : TickDoes su r st le ro log (tickIn limit delete log) (no 0 (m ∷ (d - m) ∷ [])) (withCount (r .count - m) r) st′ le′ ro′ log′
-      unfolding after handedOut next
-      handed =
-          record {
-            tables =
-                rw record-is at
-                (does-done su r st le ro (λ x. left (tickIn limit delete log x)) (m ∷ (d - m) ∷ []) next st′ le′ ro′ whole
-                (out .lists)
-                (out .moved));
-            log = rw hands (out .wrote);
-          }
-
       pub tick-hands : (n′ : Record) → n′ ≡ withCount (r .count - m) r
           → TickDoes su r st le ro log (tickIn limit delete log) (tickPaper (HandedOut (record { m = m; remain = d - m }))) n′ st′ le′ ro′ log′
-      unfolding tickPaper
-      tick-hands n′ e = rw e handed
+      unfolding tickPaper after handedOut next
+      tick-hands n′ e =
+          rw (e, ← record-is)
+          (record {
+            tables =
+                does-done su r st le ro (λ x. left (tickIn limit delete log x)) (m ∷ (d - m) ∷ []) next st′ le′ ro′ whole (out .lists)
+                (out .moved);
+            log = rw hands (out .wrote);
+          })
 
 -- what the parts ask, of a scheduler that was judged
 module _ {su : Setup} {r : Record} {st le ro : List ℕ} (s : Sound su r st le ro) where
@@ -145,10 +140,9 @@ module _ {su : Setup} {r : Record} {st le ro : List ℕ} (s : Sound su r st le r
   pub moment-ok : (m : Moment) → m ≡ momentOf (r .clock) → MomentInRange m
   moment-ok m e = rw e (record { nanos = clock-ok .nanos })
 
-pub due-is :
-    (clock : UnixTime) (m : Moment) (es : List Entry) (d : ℕ) → m ≡ momentOf clock → d ≡ below (instantOf m + 1) es
+pub due-by : (clock : UnixTime) (m : Moment) (es : List Entry) (d : ℕ) → m ≡ momentOf clock → d ≡ below (instantOf m + 1) es
     → d ≡ due (instant clock) es
-due-is clock m es d e q = q ∙ rw e
+due-by clock m es d e q = q ∙ rw e
 
 -- what is allowed of what is due lies within the rows, and the log's used part within the log
 pub few-rows : (count d limit n : ℕ) → d ≤ count → n ≡ min d limit → n ≤ count

@@ -39,7 +39,7 @@ unfolding leave
 leave-missing true ps a h = wipe-same ps a h
 leave-missing false ps a h = refl
 
--- what is found: by a refusal none, and else the packet's bytes
+-- and its record has flag 2, and no bytes
 flag-missing : (on : Bool) (x : Found) → Missing x → flagFor on x ≡ 2
 flag-missing on noPool h = refl
 flag-missing on noSlot h = refl

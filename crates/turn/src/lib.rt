@@ -1,4 +1,4 @@
-// One turn of a tick over the lent store, length table and log, for a caller that has judged: what an entry hands out, and the packet gone in delete mode.
+// One turn of a tick over the lent store, length table and log, for a caller that has judged: an entry's record, and in delete mode its packet gone.
 use lookup::Whereabouts;
 ghost use mathlib.Core.Path.{_≡_};
 ghost use Prim.Native.Nat.{_+_, _≤_};

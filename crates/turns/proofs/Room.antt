@@ -1,27 +1,23 @@
 -- The log holds what is handed out; what the first record alone needs of it.
 -- Assumes nothing.
-use Prim.Native.Nat.{_*_, _+_, _<_, _≤_, suc, zero, ℕ}
-use Rattle.log.specs.Log.{LogRecord, maxLogBytes, records, total}
+use Prim.Native.Nat.{_+_, _<_, _≤_, suc, zero, ℕ}
+use Rattle.log.proofs.Sizes.{total-parts}
+use Rattle.log.specs.Log.{maxLogBytes}
 use Rattle.measure.specs.Fitting.{fitting}
 use Rattle.slots.specs.Pools.{Pool, find}
 use Rattle.slots.specs.View.{view}
 use Rattle.rows.proofs.Rows.{length-unpack, take-unpack}
 use Rattle.rows.specs.Entries.{row, unpack}
 use Rattle.turn.specs.Turns.{always, leave, packetOf}
-use Rattle.turns_laws.proofs.Room.{fitting-holds, fitting-le}
+use Rattle.turns_laws.proofs.Fitting.{fitting-holds, fitting-le}
 use Rattle.turns.specs.Released.{firstTotal}
-use Rattle.handing.proofs.Turning.{length-turns}
 use Rattle.handing.specs.Handing.{Roomy, turns}
 use lib.ListN.{length, take}
 use mathlib.Core.Bool.{Bool}
 use mathlib.Core.List.{List}
-use mathlib.Core.Path.{_∙_, _≡_, refl}
+use mathlib.Core.Path.{_≡_, refl}
 use native.Mathlib.Omega.{arith}
 use Rattle.layout.specs.declared.Setup.{Setup}
-
-total-of : (rs : List LogRecord) (n t : ℕ) → length rs ≡ n → 8 + 4 * n + length (records rs) ≤ t → total rs ≤ t
-unfolding total
-total-of rs n t e h = omega arith
 
 -- m of the first n rows are released
 module _ (su : Setup) (st le w : List ℕ) (del : Bool) (n cap m : ℕ) (q : m ≡ fitting (leave del) 8 cap (unpack n w) (view su st le)) where
@@ -33,8 +29,7 @@ module _ (su : Setup) (st le w : List ℕ) (del : Bool) (n cap m : ℕ) (q : m �
     roomy h l g =
         let t : take m (unpack n w) ≡ unpack m w = take-unpack n w m few in
         let f = rw (← q, t) at (fitting-holds (leave del) cap (always on) 8 (unpack n w) (view su st le) h) in
-        let u = length-turns (leave del) (always on) (unpack m w) (view su st le) ∙ length-unpack m w in
-        let v = total-of (turns (leave del) (always on) (unpack m w) (view su st le)) m cap u f in
+        let v = total-parts (turns (leave del) (always on) (unpack m w) (view su st le)) in
         record { holds = omega arith; small = omega arith }
 
 -- the first entry's record alone

@@ -12,12 +12,13 @@ use Rattle.rows.specs.Entries.{Entry}
 use Rattle.rows.specs.Order.{ordered}
 use Rattle.turn.specs.Turns.{Handout, handed, handout, leave, need}
 use Rattle.turns_laws.proofs.Due.{below-drop, due-is}
-use Rattle.turns_laws.proofs.Packets.{short-leave, short-need, sound-short}
-use Rattle.turns_laws.proofs.Room.{either}
-use Rattle.turns_laws.proofs.Split.{Splits, left-due, many, splits}
-use Rattle.turns_laws.specs.Draining.{Short, drained, largestSlot, next, roomFor, roundedUp}
+use Rattle.turns_laws.proofs.Packets.{Short, short-leave, short-need, sound-short}
+use Rattle.turns_laws.proofs.Fitting.{either}
+use Rattle.turns_laws.proofs.Split.{left-due, many, splits}
+use Rattle.turns_laws.specs.Draining.{drained, followedBy, largestSlot, roomFor, roundedUp}
 use Rattle.turns_laws.specs.Due.{due, dueCount}
 use Rattle.handing.specs.Handing.{afterAll, turns}
+use Rattle.turns_laws.specs.Laws.{Splits}
 use borrow.Author.Tests.{le-leb}
 use lib.ListN.{drop, length, length-take, take}
 use lib.Seq.{drop-drop, take-add}
@@ -27,8 +28,6 @@ use mathlib.Core.Path.{_∙_, _≡_, ap, ap₂, refl, subst, sym}
 use native.Mathlib.Nat.{div-add-mod', mod-lt, mul-le-mul-right}
 use native.Mathlib.Omega.{arith}
 use Rattle.layout.specs.declared.Setup.{Setup}
-
--- ---- one handout after another
 
 turns-append : (after : List Pool → ℕ → List Pool) (on : Entry → Bool) (xs ys : List Entry) (ps : List Pool)
     → turns after on (xs ++ ys) ps ≡ turns after on xs ps ++ turns after on ys (afterAll after xs ps)
@@ -44,7 +43,7 @@ after-append after (e ∷ xs) ys ps = after-append after xs ys (after ps (e .add
 
 -- the first m, and then n of those that they left
 then-more : (after : List Pool → ℕ → List Pool) (on : Entry → Bool) (es : List Entry) (ps : List Pool) (g h : Handout) (m n : ℕ)
-    → Splits after on es ps g m → Splits after on (g .left) (g .pools) h n → Splits after on es ps (next g h) (m + n)
+    → Splits after on es ps g m → Splits after on (g .left) (g .pools) h n → Splits after on es ps (followedBy g h) (m + n)
 then-more after on es ps g h m n a b =
     record {
       records-are =
@@ -56,8 +55,6 @@ then-more after on es ps g h m n a b =
           b .pools-are ∙ rw (a .left-is, a .pools-are) (sym (after-append after (take m es) (take n (drop m es)) ps))
           ∙ ap (λ (xs : List Entry). afterAll after xs ps) (sym (take-add m n es));
     }
-
--- ---- one tick
 
 -- with room for all of them, all fit
 fitting-ample : (big : ℕ) (del : Bool) (used cap : ℕ) (es : List Entry) (ps : List Pool) → Short big ps
@@ -83,8 +80,8 @@ short-handout big del on ck k used cap (e ∷ es) ps s =
 nearly : (x k : ℕ) → 1 ≤ k → x ≤ x / k * k + (k - 1)
 nearly x k h = let e = div-add-mod' x k in let r = mod-lt x {m = k} h in omega arith
 
-pub up : (d k n : ℕ) → 1 ≤ k → roundedUp d k ≤ n → d ≤ n * k
-up d k n h l =
+pub rounded-up : (d k n : ℕ) → 1 ≤ k → roundedUp d k ≤ n → d ≤ n * k
+rounded-up d k n h l =
     let e : d + (k - 1) ≤ roundedUp d k * k + (k - 1) = nearly _ k h in
     let m = mul-le-mul-right {m = roundedUp d k} {n = n} k l in
     omega arith
@@ -135,7 +132,7 @@ module _ (big : ℕ) (del : Bool) (on : Entry → Bool) (ck k cap : ℕ) (room :
     -- d due entries are handed out within d / k ticks, rounded up
     pub all-drain : 1 ≤ k → roundedUp (due ck es) k ≤ n → Splits (leave del) on es ps after-n (due ck es)
     all-drain h l =
-        let t : min (n * k) (due ck es) ≡ due ck es = omega (arith, up (due ck es) k n h l) in
+        let t : min (n * k) (due ck es) ≡ due ck es = omega (arith, rounded-up (due ck es) k n h l) in
         subst (Splits (leave del) on es ps after-n) t (drain-splits n es ps s)
 
     -- and then no entry is due, wherever it stands
@@ -143,7 +140,7 @@ module _ (big : ℕ) (del : Bool) (on : Entry → Bool) (ck k cap : ℕ) (room :
     none-due o h l =
         let e : due ck es ≡ dueCount ck es = due-is ck 0 es o in
         let q : ordered (after-n .left) ≡ true = rw (drain-splits n es ps s .left-is) (drop-ordered 0 (min (n * k) (due ck es)) es o) in
-        sym (due-is ck 0 (after-n .left) q) ∙ drain-due ∙ omega (arith, up (dueCount ck es) k n h l)
+        sym (due-is ck 0 (after-n .left) q) ∙ drain-due ∙ omega (arith, rounded-up (dueCount ck es) k n h l)
 
 -- the same of a judged store, with room for k records of its largest slot size
 module _

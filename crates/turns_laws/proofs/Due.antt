@@ -16,12 +16,12 @@ use mathlib.Core.List.{List, [], _∷_}
 use mathlib.Core.Path.{_∙_, _≡_, ap, refl, sym}
 use native.Mathlib.Omega.{arith}
 
-none-due : (ck t : ℕ) (es : List Entry) → ck < t → orderedFrom t es ≡ true → dueCount ck es ≡ 0
+none-after : (ck t : ℕ) (es : List Entry) → ck < t → orderedFrom t es ≡ true → dueCount ck es ≡ 0
 unfolding dueCount unless
-none-due ck t [] h o = refl
-none-due ck t (e ∷ es) h o =
+none-after ck t [] h o = refl
+none-after ck t (e ∷ es) h o =
     let d = ordered-cons t e es o in
-    rw (lt-leb (time e) ck (omega (arith, d .from))) (none-due ck (time e) es (omega (arith, d .from)) (d .rest))
+    rw (lt-leb (time e) ck (omega (arith, d .from))) (none-after ck (time e) es (omega (arith, d .from)) (d .rest))
 
 -- the due entries are those at the front
 pub due-is : (ck t : ℕ) (es : List Entry) → orderedFrom t es ≡ true → due ck es ≡ dueCount ck es
@@ -33,7 +33,7 @@ due-is ck t (e ∷ es) o = go (leb (time e) ck) refl (ordered-cons t e es o) (λ
         → due ck (e ∷ es) ≡ unless b (dueCount ck es) (suc (dueCount ck es))
     go true q d ih = below-head (ck + 1) e es (omega (arith, leb-true (time e) ck q)) ∙ ap suc (ih (d .rest))
     go false q d ih =
-        below-not (ck + 1) e es (omega (arith, leb-false (time e) ck q)) ∙ sym (none-due ck (time e) es (leb-false (time e) ck q) (d .rest))
+        below-not (ck + 1) e es (omega (arith, leb-false (time e) ck q)) ∙ sym (none-after ck (time e) es (leb-false (time e) ck q) (d .rest))
 
 -- of the due entries at the front as many fewer are left as went
 pub below-drop : (t m : ℕ) (es : List Entry) → m ≤ below t es → below t (drop m es) ≡ below t es - m

@@ -10,7 +10,7 @@ use mathlib.Core.List.{List, [], _∷_}
 use mathlib.Core.Path.{_≡_, ap, refl}
 
 -- two handouts of the same records and entries, whose stores stand in a relation
-pub record Same (R : List Pool → List Pool → Type 0) (g h : Handout) : Type 0 where
+pub record SameButPools (R : List Pool → List Pool → Type 0) (g h : Handout) : Type 0 where
   pub records-same : g .records ≡ h .records
   pub left-same : g .left ≡ h .left
   pub pools-related : R (g .pools) (h .pools)
@@ -28,7 +28,7 @@ module _
     (finds : (ps qs : List Pool) (a : ℕ) → P a → R ps qs → find ps a ≡ find qs a)
     (keeps : (ps qs : List Pool) (a : ℕ) → P a → R ps qs → R (f ps a) (g qs a)) where
   pub follows : (on : Entry → Bool) (ck k used cap : ℕ) (es : List Entry) (ps qs : List Pool) → Addresses P es → R ps qs
-      → Same R (handout f on ck k used cap es ps) (handout g on ck k used cap es qs)
+      → SameButPools R (handout f on ck k used cap es ps) (handout g on ck k used cap es qs)
   unfolding handout unless
   follows on ck k used cap [] ps qs n r = record { records-same = refl; left-same = refl; pools-related = r }
   follows on ck k used cap (e ∷ es) ps qs n r =
@@ -43,8 +43,8 @@ module _
       there : Handout
       there = handout g on ck (k - 1) (used + need (find qs (e .addr))) cap es (g qs (e .addr))
 
-      go : (b : Bool) → Same R here there
-          → Same R (unless b (stop (e ∷ es) ps) (put (handed (on e) e (find qs (e .addr))) here))
+      go : (b : Bool) → SameButPools R here there
+          → SameButPools R (unless b (stop (e ∷ es) ps) (put (handed (on e) e (find qs (e .addr))) here))
           (unless b (stop (e ∷ es) qs) (put (handed (on e) e (find qs (e .addr))) there))
       go true w =
           record {

@@ -1,6 +1,6 @@
 -- A reader of the log that a handout fills finds the records that were handed out, each where its offset says.
 -- Assumes nothing.
-use Prim.Native.Nat.{_<_, _^_, _≤_, suc, zero, ℕ}
+use Prim.Native.Nat.{_≤_, suc, zero, ℕ}
 use Rattle.log.proofs.ReadBack.{Plain, read-back}
 use Rattle.log.specs.Log.{logBytes, maxLogBytes}
 use Rattle.log.specs.Reading.{readLog}
@@ -10,17 +10,13 @@ use Rattle.turn.specs.Turns.{handout}
 use Rattle.turns_laws.proofs.Largest.{largest}
 use Rattle.turns_laws.proofs.Split.{splits}
 use Rattle.handing.specs.Handing.{turns}
+use Rattle.turns_laws.specs.Laws.{WordsIn}
 use lib.ListN.{length, take}
 use lib.Seq.{sets}
 use mathlib.Core.Bool.{Bool}
 use mathlib.Core.List.{List, [], _∷_}
 use mathlib.Core.Path.{_≡_}
 use native.Mathlib.Omega.{arith}
-
--- request IDs and addresses are words, as every row's are by its type
-abbrev pub WordsIn : List Entry → Type 0
-WordsIn [] = Unit {0}
-WordsIn (e ∷ es) = (e .id < 2 ^ 64) × (e .addr < 2 ^ 64) × WordsIn es
 
 plain-turns : (after : List Pool → ℕ → List Pool) (on : Entry → Bool) (m : ℕ) (es : List Entry) (ps : List Pool) → WordsIn es
     → Plain (turns after on (take m es) ps)

@@ -1,6 +1,6 @@
 -- "The largest number m of due entries that the limit allows and the log holds."
 -- Assumes nothing.
-use Prim.Native.Nat.{_*_, _+_, _≤_, min, suc, zero, ℕ}
+use Prim.Native.Nat.{_+_, _≤_, min, suc, zero, ℕ}
 use Rattle.log.proofs.Sizes.{taken, total-parts}
 use Rattle.log.specs.Log.{records, total}
 use Rattle.measure.specs.Fitting.{fitting}
@@ -9,11 +9,11 @@ use Rattle.slots.specs.Pools.{Pool, find}
 use Rattle.table.proofs.Before.{below-le}
 use Rattle.rows.specs.Entries.{Entry}
 use Rattle.turn.specs.Turns.{handout, need}
-use Rattle.turns_laws.proofs.Room.{fitting-holds, fitting-le}
+use Rattle.turns_laws.proofs.Fitting.{fitting-holds, fitting-le}
 use Rattle.turns_laws.proofs.Split.{at-most, many}
 use Rattle.turns_laws.specs.Due.{due}
-use Rattle.handing.proofs.Turning.{length-turns}
 use Rattle.handing.specs.Handing.{turns}
+use Rattle.turns_laws.specs.Laws.{Largest}
 use borrow.Author.Tests.{le-leb}
 use lib.ListN.{length, length-take, take}
 use lib.Seq.{take-take}
@@ -22,14 +22,6 @@ use mathlib.Core.List.{List, [], _∷_}
 use mathlib.Core.Path.{_∙_, _≡_}
 use native.Mathlib.Nat.{le-of-suc-le-suc, not-suc-le-zero}
 use native.Mathlib.Omega.{arith}
-
--- the first m are due and allowed, and a log of their records fits; of no larger number is all of that so
-pub record Largest (after : List Pool → ℕ → List Pool) (on : Entry → Bool) (ck limit cap : ℕ) (es : List Entry) (ps : List Pool) (m : ℕ)
-    : Type 0 where
-  pub allowed : m ≤ limit
-  pub are-due : m ≤ due ck es
-  pub fits : total (turns after on (take m es) ps) ≤ cap
-  pub most : (k : ℕ) → k ≤ limit → k ≤ due ck es → total (turns after on (take k es) ps) ≤ cap → k ≤ m
 
 -- a number whose log fits is at most the number that fits
 fitting-most : (after : List Pool → ℕ → List Pool) (on : Entry → Bool) (used cap : ℕ) (es : List Entry) (ps : List Pool) (j : ℕ) → j ≤ length es
@@ -43,18 +35,15 @@ fitting-most after on used cap (e ∷ es) ps (suc j) h l =
 
 pub largest : (after : List Pool → ℕ → List Pool) (on : Entry → Bool) (ck limit cap : ℕ) (es : List Entry) (ps : List Pool) → 8 ≤ cap
     → Largest after on ck limit cap es ps (length (handout after on ck limit 8 cap es ps .records))
-unfolding total
 largest after on ck limit cap es ps h =
     let b = below-le (ck + 1) es in
     let a = at-most after on ck limit 8 cap es ps in
+    let f = fitting-le after cap 8 (take n es) ps in
     record {
       allowed = a .0;
       are-due = a .1;
-      fits =
-          rw m
-          (fits-all (fitting after 8 cap (take n es) ps) (fitting-le after cap 8 (take n es) ps)
-          (fitting-holds after cap on 8 (take n es) ps h));
-      most = λ k p q l. rw m (fitting-most after on 8 cap (take n es) ps k (rw long (omega arith)) (fit-some k (omega arith) l));
+      fits = rw m (omega (arith, as-taken (fitting after 8 cap (take n es) ps) (omega (arith, long)), fitting-holds after cap on 8 (take n es) ps h));
+      most = λ k p q l. rw m (fitting-most after on 8 cap (take n es) ps k (omega (arith, long)) (omega (arith, as-taken k (omega arith))));
     }
   where
     n : ℕ
@@ -66,11 +55,5 @@ largest after on ck limit cap es ps h =
     long : length (take n es) ≡ n
     long = length-take n es ∙ omega (arith, below-le (ck + 1) es)
 
-    fits-all : (k : ℕ) → k ≤ length (take n es) → 8 + 4 * k + length (records (turns after on (take k (take n es)) ps)) ≤ cap
-        → total (turns after on (take k es) ps) ≤ cap
-    fits-all k l t =
-        let r = rw (take-take k n es (omega (arith, long))) at t in
-        omega (arith, length-turns after on (take k es) ps, length-take k es, length-take n es)
-
-    fit-some : (k : ℕ) → k ≤ n → total (turns after on (take k es) ps) ≤ cap → 8 + taken (turns after on (take k (take n es)) ps) ≤ cap
-    fit-some k l t = rw (take-take k n es l) (omega (arith, total-parts (turns after on (take k es) ps)))
+    as-taken : (k : ℕ) → k ≤ n → total (turns after on (take k es) ps) ≡ 8 + taken (turns after on (take k (take n es)) ps)
+    as-taken k l = total-parts (turns after on (take k es) ps) ∙ rw (take-take k n es l)

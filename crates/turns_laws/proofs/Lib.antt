@@ -1,5 +1,5 @@
 -- The tick's laws: Split, Largest, Drains, Follows. The other files help them.
-pub mod Room
+pub mod Fitting
 pub mod Due
 pub mod Split
 pub mod Largest

@@ -7,10 +7,11 @@ use Rattle.slots.specs.Pools.{Pool, find}
 use Rattle.table.proofs.Before.{below-head, below-not}
 use Rattle.rows.specs.Entries.{Entry, time}
 use Rattle.turn.specs.Turns.{Handout, handed, handout, need, put, stop}
-use Rattle.turns_laws.proofs.Room.{either, fitting-le}
+use Rattle.turns_laws.proofs.Fitting.{either, fitting-le}
 use Rattle.turns_laws.proofs.Due.{below-drop}
 use Rattle.turns_laws.specs.Due.{due}
 use Rattle.handing.specs.Handing.{afterAll, turns}
+use Rattle.turns_laws.specs.Laws.{Splits}
 use borrow.Author.Tests.{leb-false, leb-true, ltb-false, ltb-true}
 use lib.Dec.{leb, ltb}
 use lib.ListN.{drop, length, length-take, take}
@@ -19,12 +20,6 @@ use mathlib.Core.Bool.{Bool, false, true}
 use mathlib.Core.List.{List, [], _∷_}
 use mathlib.Core.Path.{_∙_, _≡_, ap, refl}
 use native.Mathlib.Omega.{arith}
-
--- the handout h of entries es and store ps is that of the first m
-pub record Splits (after : List Pool → ℕ → List Pool) (on : Entry → Bool) (es : List Entry) (ps : List Pool) (h : Handout) (m : ℕ) : Type 0 where
-  pub records-are : h .records ≡ turns after on (take m es) ps
-  pub left-is : h .left ≡ drop m es
-  pub pools-are : h .pools ≡ afterAll after (take m es) ps
 
 pub splits : (after : List Pool → ℕ → List Pool) (on : Entry → Bool) (ck k used cap : ℕ) (es : List Entry) (ps : List Pool)
     → Splits after on es ps (handout after on ck k used cap es ps) (length (handout after on ck k used cap es ps .records))

@@ -1,3 +1,4 @@
 -- The words of the tick's laws.
 pub mod Due
+pub mod Laws
 pub mod Draining

@@ -8,26 +8,26 @@ use borrow.Author.Needs.{needs}
 use Rattle.tick.proofs.tick.Statement.{statement}
 use Rattle.tick.proofs.tick.Tie as tie
 
--- src/lib.rt:46:26
 tick-requires : tie.Need-tick-requires
-tick-requires c κs = let t = c .before .before .before .before in
+tick-requires c κs =
+    let t = c .before .before .before .before in
     let j = t .before .before in
     let a = j .before .before .before .before .before .before .before .before .args in
     sound-by (a .setup) (a .rec) (a .store .now) (a .lens .now) (a .rows .now) _ (j .judge .ensures) (t .enum-told .given .1)
 
--- src/lib.rt:29:1
 returns : tie.Need-returns
 unfolding tickPaper
-returns c = let k = c .before .before in
+returns c =
+    let k = c .before .before in
     let j = k .before .before in
     let a = j .before .before .before .before .before .before .before .before .args in
     rw (c .refuse .ensures .0, c .refuse .ensures .1)
     (ticks-refused (a .setup) (a .rec) (a .store .now) (a .lens .now) (a .rows .now) (a .log .now)
     (tickIn (a .limit) (a .delete) (a .log .now)) _ _ (j .judge .ensures) (k .j .given .1))
 
--- src/lib.rt:29:1
 returns-2 : tie.Need-returns-2
-returns-2 c = let x = c .before .before .before .before .before .before .before .before in
+returns-2 c =
+    let x = c .before .before .before .before .before .before .before .before in
     let t = x .before .before .before .before .before in
     let j = t .before .before in
     let a = j .before .before .before .before .before .before .before .before .args in

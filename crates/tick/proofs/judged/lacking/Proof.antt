@@ -6,15 +6,12 @@ use borrow.Author.Needs.{needs}
 use Rattle.tick.proofs.judged.lacking.Statement.{statement}
 use Rattle.tick.proofs.judged.lacking.Tie as tie
 
--- src/judged.rt:83:9
 returns : tie.Need-returns
 returns c = lack-none _ _ _ _ (c .if1 .taken)
 
--- src/judged.rt:87:9
 returns-2 : tie.Need-returns-2
 returns-2 c = lack-fits _ _ _ _ _ (omega arith) (c .before .first-total .ensures) (c .if2 .taken)
 
--- src/judged.rt:69:1
 returns-3 : tie.Need-returns-3
 returns-3 c = lack-short _ _ _ _ _ (omega arith) (c .before .first-total .ensures) (omega arith)
 

@@ -1,13 +1,12 @@
 -- The entries that fit do fit: how many they are, and what their log takes.
 -- Assumes nothing.
-use Prim.Native.Nat.{_*_, _+_, _≤_, suc, ℕ}
-use Rattle.log.proofs.Sizes.{size-records}
-use Rattle.log.specs.Log.{LogRecord, records}
+use Prim.Native.Nat.{_+_, _≤_, suc, ℕ}
+use Rattle.log.proofs.Sizes.{taken}
 use Rattle.measure.specs.Fitting.{fitting}
 use Rattle.rules.specs.Tests.{unless}
 use Rattle.slots.specs.Pools.{Pool, find}
 use Rattle.rows.specs.Entries.{Entry}
-use Rattle.turn.specs.Turns.{handed, need}
+use Rattle.turn.specs.Turns.{need}
 use Rattle.handing.specs.Handing.{turns}
 use borrow.Author.Tests.{leb-true}
 use lib.ListN.{length, take}
@@ -31,20 +30,10 @@ module _ (after : List Pool → ℕ → List Pool) (cap : ℕ) where
       either (λ (n : ℕ). n ≤ suc (length es)) _ _ _ (λ q. omega arith) (λ q. omega arith)
 
   pub fitting-holds : (on : Entry → Bool) (used : ℕ) (es : List Entry) (ps : List Pool) → used ≤ cap
-      → used + 4 * fitting after used cap es ps + length (records (turns after on (take (fitting after used cap es ps) es) ps)) ≤ cap
-  unfolding fitting turns records
+      → used + taken (turns after on (take (fitting after used cap es ps) es) ps) ≤ cap
+  unfolding fitting turns taken
   fitting-holds on used [] ps h = omega arith
   fitting-holds on used (e ∷ es) ps h =
-      let r : LogRecord = handed (on e) e (find ps (e .addr)) in
-      let n : ℕ = fitting after (used + need (find ps (e .addr))) cap es (after ps (e .addr)) in
-      either
-      (λ (m : ℕ). used + 4 * m + length (records (turns after on (take m (e ∷ es)) ps)) ≤ cap)
-      _
-      _
-      _
-      (λ q. omega (
-        arith,
-        fitting-holds on (used + need (find ps (e .addr))) es (after ps (e .addr)) (leb-true _ _ q),
-        size-records r (turns after on (take n es) (after ps (e .addr))),
-      ))
+      either (λ (m : ℕ). used + taken (turns after on (take m (e ∷ es)) ps) ≤ cap) _ _ _
+      (λ q. omega (arith, fitting-holds on (used + need (find ps (e .addr))) es (after ps (e .addr)) (leb-true _ _ q)))
       (λ q. omega arith)
