@@ -14,8 +14,8 @@ use Rattle.layout.specs.Judge.{lensOk, setupOk as storeSetupOk}
 use Rattle.slots.specs.View.{lensWith, storeWith}
 use Rattle.rows.specs.Entries.{relaid, unpack}
 use Rattle.rows.specs.Order.{ordered}
-use Rattle.silotwist.proofs.Answering.{answers, answers-short, roomy, short}
-use Rattle.face_words.proofs.Written.{set-same}
+use Rattle.silotwist.proofs.Answering.{answers, answers-no-room, no-room, with-room}
+use Rattle.face_reading.proofs.Standing.{stands-same}
 use Rattle.silotwist.specs.Face.{Answers}
 use Rattle.face_reading.specs.Inside.{ReadsSetup, Stands, fine}
 use Rattle.face_words.specs.Inside.{eight, wordsOf}
@@ -27,6 +27,7 @@ use Rattle.face_words.specs.declared.Words.{Words}
 use borrow.Author.Tests.{le-leb, lt-leb}
 use lib.Dec.{leb}
 use lib.ListN.{drop, length, set}
+use lib.Seq.{set-getD}
 use native.Mathlib.Omega.{arith}
 use mathlib.Core.Bool.{Bool, _&&_, cond, false, true}
 use mathlib.Core.List.{List, [], _++_, _∷_}
@@ -97,9 +98,9 @@ module _ {A : Type 0} (an sw rw₀ : List ℕ) (call : Setup → Record → Outc
       go true e = rw (r .store .same e)
       go false e = rw (worded-bad e)
 
-  pub asks-no-answer : length an < 8 → Answers (scheduleCall an sw rw₀ call) an 2 an
+  pub asks-no-room : length an < 8 → Answers (scheduleCall an sw rw₀ call) an 2 an
   unfolding scheduleCall
-  asks-no-answer h = answers-short an worded h
+  asks-no-room h = answers-no-room an worded h
 
   pub asks-short : (su : Setup) (w : Words) (n : ℕ) (an′ : List ℕ) → 8 ≤ length an → ReadsSetup sw su → length rw₀ < 6 → w ≡ wordsOf
       (shortPaper su)
@@ -130,11 +131,9 @@ damaged su r le ro e = rw e (go (leb (r .count) (su .entries)))
 stands-judged : {A : Type 0} (su : Setup) (x r : Record) (st le ro : List ℕ) (call : State → Outcome A) → Stands x r
     → judging su r st le ro call ≡ judging su x st le ro call
 unfolding judging judgedBy unless
-stands-judged su x r st le ro call s = go (timesInRange x) refl
-  where
-    go : (b : Bool) → timesInRange x ≡ b → judging su r st le ro call ≡ judging su x st le ro call
-    go true e = ap (λ y. judging su y st le ro call) (s .same e)
-    go false e = rw (damaged su r le ro (s .damaged e), damaged su x le ro e)
+stands-judged su x r st le ro call s =
+    stands-same (λ y. judging su y st le ro call)
+    (judgedBy (setupOk su) (buffersOk su (length st) (length le) (length ro)) false (refused (no 3 []))) x r s (λ y e. rw (damaged su y le ro e))
 
 module _ {A : Type 0} (an sw rw₀ st le ro : List ℕ) (call : Setup → State → Outcome A) where
   abbrev pub judgedOf : Setup → Record → Outcome A
@@ -147,9 +146,9 @@ module _ {A : Type 0} (an sw rw₀ st le ro : List ℕ) (call : Setup → State 
       (call v) t) su s l
 
   -- calls that only answer
-  pub looks-no-answer : length an < 8 → Answers (judgedCall an sw rw₀ st le ro call) an 2 an
+  pub looks-no-room : length an < 8 → Answers (judgedCall an sw rw₀ st le ro call) an 2 an
   unfolding judgedCall
-  looks-no-answer h = asks-no-answer an sw rw₀ judgedOf h
+  looks-no-room h = asks-no-room an sw rw₀ judgedOf h
 
   pub looks-short : (su : Setup) (w : Words) (n : ℕ) (an′ : List ℕ) → 8 ≤ length an → ReadsSetup sw su → length rw₀ < 6 → w ≡ wordsOf
       (shortPaper su)
@@ -165,11 +164,11 @@ module _ {A : Type 0} (an sw rw₀ st le ro : List ℕ) (call : Setup → State 
 
 -- calls that write
 module _ (an sw rw₀ st le ro : List ℕ) (call : Setup → Record → Outcome State) (k : ℕ) (written : State → List ℕ) where
-  pub faces-no-answer : length an < 8 → ScheduleFaces sw k (scheduleCall an sw rw₀ call) written rw₀ st le ro an 2 rw₀ st le ro an
+  pub faces-no-room : length an < 8 → ScheduleFaces sw k (scheduleCall an sw rw₀ call) written rw₀ st le ro an 2 rw₀ st le ro an
   unfolding scheduleCall after
-  faces-no-answer h =
-      let e = short an (worded an sw rw₀ call) h in
-      record { answer = asks-no-answer an sw rw₀ call h; words = rw e; store = rw e; lens = rw e; rows = rw e }
+  faces-no-room h =
+      let e = no-room an (worded an sw rw₀ call) h in
+      record { answer = asks-no-room an sw rw₀ call h; words = rw e; store = rw e; lens = rw e; rows = rw e }
 
   pub faces-short : (su : Setup) (w : Words) (n : ℕ) (an′ : List ℕ) → 8 ≤ length an → ReadsSetup sw su → length rw₀ < 6 → w ≡ wordsOf
       (shortPaper su)
@@ -177,7 +176,7 @@ module _ (an sw rw₀ st le ro : List ℕ) (call : Setup → Record → Outcome 
       → ScheduleFaces sw k (scheduleCall an sw rw₀ call) written rw₀ st le ro an n rw₀ st le ro an′
   unfolding scheduleCall after
   faces-short su w n an′ h r l e i j =
-      let q = roomy an (worded an sw rw₀ call) h ∙ short-is an sw rw₀ call su r l in
+      let q = with-room an (worded an sw rw₀ call) h ∙ short-is an sw rw₀ call su r l in
       record { answer = asks-short an sw rw₀ call su w n an′ h r l e i j; words = rw q; store = rw q; lens = rw q; rows = rw q }
 
   pub faces-done : (su : Setup) (r : Record) (p : Paper) (w : Words) (n : ℕ) (rw′ st′ le′ ro′ an′ : List ℕ) → 8 ≤ length an → ReadsSetup sw su
@@ -187,7 +186,7 @@ module _ (an sw rw₀ st le ro : List ℕ) (call : Setup → Record → Outcome 
       → ScheduleFaces sw k (scheduleCall an sw rw₀ call) written rw₀ st le ro an n rw′ st′ le′ ro′ an′
   unfolding scheduleCall
   faces-done su r p w n rw′ st′ le′ ro′ an′ h t q s e i j a b d f =
-      let o = roomy an (worded an sw rw₀ call) h in
+      let o = with-room an (worded an sw rw₀ call) h in
       record {
         answer = asks-done an sw rw₀ call su r p w n an′ h q s e i j;
         words = rw (o, ← q) a;
@@ -197,21 +196,21 @@ module _ (an sw rw₀ st le ro : List ℕ) (call : Setup → Record → Outcome 
       }
 
 -- the count, written always: a refusal's is the one that was there
-count-after : (rw₀ : List ℕ) (r r′ : Record) (o : Outcome State) → 6 ≤ length rw₀ → r .count ≡ word rw₀ 0 → r′ ≡ after o r recordOf
+count-after : (rw₀ : List ℕ) (r r′ : Record) (o : Outcome State) → r .count ≡ word rw₀ 0 → r′ ≡ after o r recordOf
     → set rw₀ 0 (r′ .count) ≡ after o rw₀ (countWritten rw₀)
 unfolding after
-count-after rw₀ r r′ (refused p) l e q = rw q (set-same rw₀ (r .count) (omega arith) e)
-count-after rw₀ r r′ (done vs s) l e q = rw q
+count-after rw₀ r r′ (refused p) e q = rw (q, e) (set-getD rw₀ 0 0)
+count-after rw₀ r r′ (done vs s) e q = rw q
 
 pub stands-count : (rw₀ : List ℕ) (r : Record) → Stands (recordFrom rw₀) r → r .count ≡ word rw₀ 0
 unfolding recordFrom
 stands-count rw₀ r s = s .count
 
 module _ (an sw rw₀ st le ro : List ℕ) (call : Setup → State → Outcome State) where
-  pub changes-no-answer : (written : State → List ℕ) → length an < 8
+  pub changes-no-room : (written : State → List ℕ) → length an < 8
       → ScheduleFaces sw (word rw₀ 0) (judgedCall an sw rw₀ st le ro call) written rw₀ st le ro an 2 rw₀ st le ro an
   unfolding judgedCall
-  changes-no-answer written h = faces-no-answer an sw rw₀ st le ro (judgedOf an sw rw₀ st le ro call) (word rw₀ 0) written h
+  changes-no-room written h = faces-no-room an sw rw₀ st le ro (judgedOf an sw rw₀ st le ro call) (word rw₀ 0) written h
 
   pub changes-short : (written : State → List ℕ) (su : Setup) (w : Words) (n : ℕ) (an′ : List ℕ) → 8 ≤ length an → ReadsSetup sw su
       → length rw₀ < 6
@@ -237,7 +236,7 @@ module _ (an sw rw₀ st le ro : List ℕ) (call : Setup → State → Outcome S
       → ScheduleFaces sw (word rw₀ 0) (judgedCall an sw rw₀ st le ro call) (countWritten rw₀) rw₀ st le ro an n rw′ st′ le′ ro′ an′
   changes su r r′ p w n rw′ st′ le′ ro′ an′ h s l t x e i j a =
       carries (countWritten rw₀) su r r′ p w n rw′ st′ le′ ro′ an′ h s l t x e i j
-      (a ∙ count-after rw₀ r r′ (judging su r st le ro (call su)) l (stands-count rw₀ r t) (x .next))
+      (a ∙ count-after rw₀ r r′ (judging su r st le ro (call su)) (stands-count rw₀ r t) (x .next))
 
 -- the same, where an argument was made from C's parameters
 pub looks-at : {A X : Type 0} (an sw rw₀ st le ro : List ℕ) (F : X → Setup → State → Outcome A) (x y : X) → x ≡ y → (su : Setup) (r : Record)

@@ -9,8 +9,8 @@ use Rattle.schedule.specs.State.{State}
 use Rattle.schedule.specs.declared.Setup.{Setup}
 use Rattle.tick.specs.Promise.{Ticks, left}
 use Rattle.tick.specs.Tick.{Logged}
-use Rattle.silotwist.proofs.Answering.{roomy, short}
-use Rattle.silotwist.proofs.ScheduleCalls.{changes, changes-no-answer, changes-short, judged-is, judgedOf, short-is, worded}
+use Rattle.silotwist.proofs.Answering.{no-room, with-room}
+use Rattle.silotwist.proofs.ScheduleCalls.{changes, changes-no-room, changes-short, judged-is, judgedOf, short-is, worded}
 use Rattle.silotwist.specs.Face.{answering}
 use Rattle.face_reading.specs.Inside.{ReadsSetup, Stands}
 use Rattle.face_words.specs.Inside.{eight, wordsOf}
@@ -45,12 +45,12 @@ module _ (an sw rw₀ st le ro : List ℕ) (call : Setup → State → Outcome L
   left-judged = simp (left-unless, left-judging)
 
   module _ (lo : List ℕ) where
-    pub ticks-no-answer : length an < 8
+    pub ticks-no-room : length an < 8
         → TickFaces sw (word rw₀ 0) (judgedCall an sw rw₀ st le ro call) (countWritten rw₀) rw₀ st le ro lo an 2 rw₀ st le ro lo an
     unfolding judgedCall scheduleCall after
-    ticks-no-answer h =
-        let e = short an (worded an sw rw₀ (judgedOf an sw rw₀ st le ro call)) h in
-        record { tables = rw left-judged (changes-no-answer an sw rw₀ st le ro (λ su s. left (call su s)) (countWritten rw₀) h); log = rw e }
+    ticks-no-room h =
+        let e = no-room an (worded an sw rw₀ (judgedOf an sw rw₀ st le ro call)) h in
+        record { tables = rw left-judged (changes-no-room an sw rw₀ st le ro (λ su s. left (call su s)) (countWritten rw₀) h); log = rw e }
 
     pub ticks-short : (su : Setup) (w : Words) (n : ℕ) (an′ : List ℕ) → 8 ≤ length an → ReadsSetup sw su → length rw₀ < 6
         → w ≡ wordsOf (shortPaper su) → n ≡ w .number → an′ ≡ eight (w .values) ++ drop 8 an
@@ -58,7 +58,7 @@ module _ (an sw rw₀ st le ro : List ℕ) (call : Setup → State → Outcome L
     unfolding judgedCall scheduleCall after
     ticks-short su w n an′ h r l e i j =
         let f = judgedOf an sw rw₀ st le ro call in
-        let q = roomy an (worded an sw rw₀ f) h ∙ short-is an sw rw₀ f su r l in
+        let q = with-room an (worded an sw rw₀ f) h ∙ short-is an sw rw₀ f su r l in
         record {
           tables = rw left-judged (changes-short an sw rw₀ st le ro (λ su s. left (call su s)) (countWritten rw₀) su w n an′ h r l e i j);
           log = rw q;
@@ -70,7 +70,7 @@ module _ (an sw rw₀ st le ro : List ℕ) (call : Setup → State → Outcome L
     log-is su r lo′ h s l t x =
         let f = judgedOf an sw rw₀ st le ro call in
         x
-        ∙ ap (λ o. after o lo (λ v. v .log)) (judged-is an sw rw₀ st le ro call su r s t l ∙ sym (roomy an (worded an sw rw₀ f) h))
+        ∙ ap (λ o. after o lo (λ v. v .log)) (judged-is an sw rw₀ st le ro call su r s t l ∙ sym (with-room an (worded an sw rw₀ f) h))
 
     pub ticks : (su : Setup) (r r′ : Record) (p : Paper) (w : Words) (n : ℕ) (rw′ st′ le′ ro′ lo′ an′ : List ℕ) → 8 ≤ length an
         → ReadsSetup sw su → 6 ≤ length rw₀ → Stands (recordFrom rw₀) r

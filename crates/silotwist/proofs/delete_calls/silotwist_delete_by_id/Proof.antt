@@ -2,7 +2,7 @@
 -- Assumes nothing.
 use Rattle.by_id.specs.ById.{deleteByIdIn}
 use Rattle.silotwist.specs.ScheduleFace.{countWritten}
-use Rattle.silotwist.proofs.ScheduleCalls.{changes, changes-no-answer, changes-short}
+use Rattle.silotwist.proofs.ScheduleCalls.{changes, changes-no-room, changes-short}
 use mathlib.Core.Path.{refl}
 use borrow.Author.Needs.{needs}
 use Rattle.silotwist.proofs.delete_calls.silotwist_delete_by_id.Statement.{statement}
@@ -11,7 +11,7 @@ use Rattle.silotwist.proofs.delete_calls.silotwist_delete_by_id.Tie as 
 returns : tie.Need-returns
 returns c =
     let a = c .before .before .before .before .before .before .before .args in
-    changes-no-answer (a .answer .now) (a .setup .now) (a .«record» .now) (a .store .now) (a .lens .now) (a .rows .now) (λ su. deleteByIdIn
+    changes-no-room (a .answer .now) (a .setup .now) (a .«record» .now) (a .store .now) (a .lens .now) (a .rows .now) (λ su. deleteByIdIn
     (a .request-id)) (countWritten (a .«record» .now)) (c .if1 .taken)
 
 short-requires : tie.Need-short-requires

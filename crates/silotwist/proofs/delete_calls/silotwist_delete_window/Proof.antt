@@ -3,7 +3,7 @@
 use Rattle.deletions.specs.Deleting.{deleteWindowIn}
 use Rattle.face_reading.specs.Reading.{windowFrom}
 use Rattle.silotwist.specs.ScheduleFace.{countWritten}
-use Rattle.silotwist.proofs.ScheduleCalls.{changes-at, changes-no-answer, changes-short}
+use Rattle.silotwist.proofs.ScheduleCalls.{changes-at, changes-no-room, changes-short}
 use Rattle.face_reading.proofs.Seconds.{held-time}
 use mathlib.Core.Path.{_∙_, ap₂, refl}
 use borrow.Author.Needs.{needs}
@@ -13,7 +13,7 @@ use Rattle.silotwist.proofs.delete_calls.silotwist_delete_window.Tie as
 returns : tie.Need-returns
 returns c =
     let a = c .before .before .before .before .before .before .before .args in
-    changes-no-answer (a .answer .now) (a .setup .now) (a .«record» .now) (a .store .now) (a .lens .now) (a .rows .now) (λ su. deleteWindowIn
+    changes-no-room (a .answer .now) (a .setup .now) (a .«record» .now) (a .store .now) (a .lens .now) (a .rows .now) (λ su. deleteWindowIn
     (windowFrom (a .has-from) (record { secs = a .from-secs; nanos = a .from-nanos }) (a .has-to)
     (record { secs = a .to-secs; nanos = a .to-nanos }))) (countWritten (a .«record» .now)) (c .if1 .taken)
 

@@ -2,7 +2,7 @@
 -- Assumes nothing.
 use Rattle.gate.specs.Entering.{insertStoredIn}
 use Rattle.silotwist.specs.ScheduleFace.{countWritten}
-use Rattle.silotwist.proofs.ScheduleCalls.{changes-at, changes-no-answer, changes-short}
+use Rattle.silotwist.proofs.ScheduleCalls.{changes-at, changes-no-room, changes-short}
 use Rattle.face_reading.proofs.Seconds.{held-time}
 use mathlib.Core.Path.{refl}
 use borrow.Author.Needs.{needs}
@@ -12,7 +12,7 @@ use Rattle.silotwist.proofs.insert_calls.silotwist_insert_stored.Tie as
 returns : tie.Need-returns
 returns c =
     let a = c .before .before .before .before .before .before .before .args in
-    changes-no-answer (a .answer .now) (a .setup .now) (a .«record» .now) (a .store .now) (a .lens .now) (a .rows .now) (λ su. insertStoredIn su
+    changes-no-room (a .answer .now) (a .setup .now) (a .«record» .now) (a .store .now) (a .lens .now) (a .rows .now) (λ su. insertStoredIn su
     (record { secs = a .secs; nanos = a .nanos }) (a .request-id) (a .address)) (countWritten (a .«record» .now)) (c .if1 .taken)
 
 short-requires : tie.Need-short-requires

@@ -2,13 +2,13 @@
 -- Assumes nothing.
 use Rattle.record.specs.Record.{markIn}
 use Rattle.silotwist.specs.RecordFace.{markWritten}
-use Rattle.silotwist.proofs.RecordCalls.{mark-face, record-no-answer, record-short}
+use Rattle.silotwist.proofs.RecordCalls.{mark-face, record-no-room, record-short}
 use borrow.Author.Needs.{needs}
 use Rattle.silotwist.proofs.record_calls.mark.Statement.{statement}
 use Rattle.silotwist.proofs.record_calls.mark.Tie as tie
 
 returns : tie.Need-returns
-returns c = record-no-answer (c .before .before .before .args .answer .now) (c .before .before .before .args .«record» .now) (markIn
+returns c = record-no-room (c .before .before .before .args .answer .now) (c .before .before .before .args .«record» .now) (markIn
     (c .before .before .before .args .on)) (markWritten (c .before .before .before .args .«record» .now)) (c .if1 .taken)
 
 returns-2 : tie.Need-returns-2

@@ -2,7 +2,7 @@
 -- Assumes nothing.
 use Rattle.record.specs.Record.{clockIn}
 use Rattle.silotwist.specs.RecordFace.{clockWritten}
-use Rattle.silotwist.proofs.RecordCalls.{clock-face, record-no-answer, record-short}
+use Rattle.silotwist.proofs.RecordCalls.{clock-face, record-no-room, record-short}
 use mathlib.Core.Path.{ap}
 use mir.Facts.{toZ-ofZ}
 use mir.Syntax.{w64}
@@ -13,7 +13,7 @@ use Rattle.silotwist.proofs.record_calls.silotwist_set_clock.Statement.
 use Rattle.silotwist.proofs.record_calls.silotwist_set_clock.Tie as tie
 
 returns : tie.Need-returns
-returns c = record-no-answer (c .before .before .before .args .answer .now) (c .before .before .before .args .«record» .now) (clockIn
+returns c = record-no-room (c .before .before .before .args .answer .now) (c .before .before .before .args .«record» .now) (clockIn
     (record { secs = c .before .before .before .args .secs; nanos = c .before .before .before .args .nanos })) (clockWritten
     (c .before .before .before .args .«record» .now)) (c .if1 .taken)
 

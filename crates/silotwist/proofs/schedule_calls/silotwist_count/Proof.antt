@@ -1,7 +1,7 @@
 -- `silotwist::schedule_calls::silotwist_count` meets its contract.
 -- Assumes nothing.
 use Rattle.schedule.specs.Counting.{countIn}
-use Rattle.silotwist.proofs.ScheduleCalls.{looks, looks-no-answer, looks-short}
+use Rattle.silotwist.proofs.ScheduleCalls.{looks, looks-no-room, looks-short}
 use mathlib.Core.Path.{refl}
 use borrow.Author.Needs.{needs}
 use Rattle.silotwist.proofs.schedule_calls.silotwist_count.Statement.{statement}
@@ -10,7 +10,7 @@ use Rattle.silotwist.proofs.schedule_calls.silotwist_count.Tie as tie
 returns : tie.Need-returns
 returns c =
     let a = c .before .before .before .before .before .before .before .args in
-    looks-no-answer (a .answer .now) (a .setup .now) (a .«record» .now) (a .store .now) (a .lens .now) (a .rows .now) (λ su. countIn)
+    looks-no-room (a .answer .now) (a .setup .now) (a .«record» .now) (a .store .now) (a .lens .now) (a .rows .now) (λ su. countIn)
     (c .if1 .taken)
 
 short-requires : tie.Need-short-requires

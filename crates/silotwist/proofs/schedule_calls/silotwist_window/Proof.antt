@@ -2,7 +2,7 @@
 -- Assumes nothing.
 use Rattle.windows.specs.Windowing.{retrieveIn}
 use Rattle.face_reading.specs.Reading.{windowFrom}
-use Rattle.silotwist.proofs.ScheduleCalls.{looks-at, looks-no-answer, looks-short}
+use Rattle.silotwist.proofs.ScheduleCalls.{looks-at, looks-no-room, looks-short}
 use Rattle.face_reading.proofs.Seconds.{held-time}
 use mathlib.Core.Path.{_∙_, ap₂, refl}
 use borrow.Author.Needs.{needs}
@@ -12,7 +12,7 @@ use Rattle.silotwist.proofs.schedule_calls.silotwist_window.Tie as tie
 returns : tie.Need-returns
 returns c =
     let a = c .before .before .before .before .before .before .before .args in
-    looks-no-answer (a .answer .now) (a .setup .now) (a .«record» .now) (a .store .now) (a .lens .now) (a .rows .now) (λ su. retrieveIn
+    looks-no-room (a .answer .now) (a .setup .now) (a .«record» .now) (a .store .now) (a .lens .now) (a .rows .now) (λ su. retrieveIn
     (windowFrom (a .has-from) (record { secs = a .from-secs; nanos = a .from-nanos }) (a .has-to)
     (record { secs = a .to-secs; nanos = a .to-nanos }))) (c .if1 .taken)
 

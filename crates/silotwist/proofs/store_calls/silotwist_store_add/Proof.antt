@@ -1,13 +1,13 @@
 -- `silotwist::store_calls::silotwist_store_add` meets its contract.
 -- Assumes nothing.
 use Rattle.store.specs.Calls.{addIn}
-use Rattle.silotwist.proofs.StoreCalls.{stores, stores-short}
+use Rattle.silotwist.proofs.StoreCalls.{stores, stores-no-room}
 use borrow.Author.Needs.{needs}
 use Rattle.silotwist.proofs.store_calls.silotwist_store_add.Statement.{statement}
 use Rattle.silotwist.proofs.store_calls.silotwist_store_add.Tie as tie
 
 returns : tie.Need-returns
-returns c = let a = c .before .before .before .before .before .before .args in stores-short (a .answer .now) (a .setup .now) (a .store .now)
+returns c = let a = c .before .before .before .before .before .before .args in stores-no-room (a .answer .now) (a .setup .now) (a .store .now)
     (a .lens .now) (λ su ps. addIn (su .spill) ps (a .«data» .now)) (c .if1 .taken)
 
 returns-2 : tie.Need-returns-2

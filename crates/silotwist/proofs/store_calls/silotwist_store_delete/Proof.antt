@@ -1,13 +1,13 @@
 -- `silotwist::store_calls::silotwist_store_delete` meets its contract.
 -- Assumes nothing.
 use Rattle.store.specs.Calls.{deleteIn}
-use Rattle.silotwist.proofs.StoreCalls.{stores, stores-short}
+use Rattle.silotwist.proofs.StoreCalls.{stores, stores-no-room}
 use borrow.Author.Needs.{needs}
 use Rattle.silotwist.proofs.store_calls.silotwist_store_delete.Statement.{statement}
 use Rattle.silotwist.proofs.store_calls.silotwist_store_delete.Tie as tie
 
 returns : tie.Need-returns
-returns c = let a = c .before .before .before .before .before .args in stores-short (a .answer .now) (a .setup .now) (a .store .now)
+returns c = let a = c .before .before .before .before .before .args in stores-no-room (a .answer .now) (a .setup .now) (a .store .now)
     (a .lens .now) (λ su ps. deleteIn ps (a .address)) (c .if1 .taken)
 
 returns-2 : tie.Need-returns-2

@@ -1,13 +1,13 @@
 -- `silotwist::store_calls::silotwist_store_modify` meets its contract.
 -- Assumes nothing.
 use Rattle.lookup.specs.Calls.{packetIn}
-use Rattle.silotwist.proofs.StoreCalls.{asks, asks-short}
+use Rattle.silotwist.proofs.StoreCalls.{asks, asks-no-room}
 use borrow.Author.Needs.{needs}
 use Rattle.silotwist.proofs.store_calls.silotwist_store_modify.Statement.{statement}
 use Rattle.silotwist.proofs.store_calls.silotwist_store_modify.Tie as tie
 
 returns : tie.Need-returns
-returns c = let a = c .before .before .before .before .before .args in asks-short (a .answer .now) (a .setup .now) (a .store .now) (a .lens .now)
+returns c = let a = c .before .before .before .before .before .args in asks-no-room (a .answer .now) (a .setup .now) (a .store .now) (a .lens .now)
     (λ su ps. packetIn ps (a .address)) (c .if1 .taken)
 
 returns-2 : tie.Need-returns-2

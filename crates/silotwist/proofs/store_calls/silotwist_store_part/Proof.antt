@@ -1,6 +1,6 @@
 -- `silotwist::store_calls::silotwist_store_part` meets its contract.
 -- Assumes nothing.
-use Rattle.silotwist.proofs.StoreCalls.{asks, asks-short}
+use Rattle.silotwist.proofs.StoreCalls.{asks, asks-no-room}
 use Rattle.silotwist.specs.StoreFace.{partIn}
 use mathlib.Core.Path.{refl}
 use borrow.Author.Needs.{needs}
@@ -8,7 +8,7 @@ use Rattle.silotwist.proofs.store_calls.silotwist_store_part.Statement.
 use Rattle.silotwist.proofs.store_calls.silotwist_store_part.Tie as tie
 
 returns : tie.Need-returns
-returns c = let a = c .before .before .before .before .before .args in asks-short (a .answer .now) (a .setup .now) (a .store .now) (a .lens .now)
+returns c = let a = c .before .before .before .before .before .args in asks-no-room (a .answer .now) (a .setup .now) (a .store .now) (a .lens .now)
     (partIn (a .address)) (c .if1 .taken)
 
 returns-2 : tie.Need-returns-2

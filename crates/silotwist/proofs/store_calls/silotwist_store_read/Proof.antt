@@ -1,13 +1,13 @@
 -- `silotwist::store_calls::silotwist_store_read` meets its contract.
 -- Assumes nothing.
 use Rattle.lookup.specs.Calls.{readIn}
-use Rattle.silotwist.proofs.StoreCalls.{buffers, buffers-short}
+use Rattle.silotwist.proofs.StoreCalls.{buffers, buffers-no-room}
 use borrow.Author.Needs.{needs}
 use Rattle.silotwist.proofs.store_calls.silotwist_store_read.Statement.{statement}
 use Rattle.silotwist.proofs.store_calls.silotwist_store_read.Tie as tie
 
 returns : tie.Need-returns
-returns c = let a = c .before .before .before .before .before .before .args in buffers-short (a .answer .now) (a .setup .now) (a .store .now)
+returns c = let a = c .before .before .before .before .before .before .args in buffers-no-room (a .answer .now) (a .setup .now) (a .store .now)
     (a .lens .now) (a .buffer .now) (λ su ps. readIn ps (a .address) (a .buffer .now)) (c .if1 .taken)
 
 returns-2 : tie.Need-returns-2

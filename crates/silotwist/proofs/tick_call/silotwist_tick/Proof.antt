@@ -1,7 +1,7 @@
 -- `silotwist::tick_call::silotwist_tick` meets its contract.
 -- Assumes nothing.
 use Rattle.tick.specs.Tick.{tickIn}
-use Rattle.silotwist.proofs.TickCalls.{ticks, ticks-no-answer, ticks-short}
+use Rattle.silotwist.proofs.TickCalls.{ticks, ticks-no-room, ticks-short}
 use mathlib.Core.Path.{refl}
 use borrow.Author.Needs.{needs}
 use Rattle.silotwist.proofs.tick_call.silotwist_tick.Statement.{statement}
@@ -10,7 +10,7 @@ use Rattle.silotwist.proofs.tick_call.silotwist_tick.Tie as tie
 returns : tie.Need-returns
 returns c =
     let a = c .before .before .before .before .before .before .before .before .args in
-    ticks-no-answer (a .answer .now) (a .setup .now) (a .«record» .now) (a .store .now) (a .lens .now) (a .rows .now) (λ su. tickIn
+    ticks-no-room (a .answer .now) (a .setup .now) (a .«record» .now) (a .store .now) (a .lens .now) (a .rows .now) (λ su. tickIn
     (a .limit) (a .delete-packets) (a .log .now)) (a .log .now) (c .if1 .taken)
 
 short-requires : tie.Need-short-requires
