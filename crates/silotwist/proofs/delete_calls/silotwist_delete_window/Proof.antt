@@ -12,18 +12,14 @@ use Rattle.silotwist.proofs.delete_calls.silotwist_delete_window.Tie as
 
 returns : tie.Need-returns
 returns c =
-    let a = c .before .before .before .before .before .before .before .args in
-    changes-no-room (a .answer .now) (a .setup .now) (a .«record» .now) (a .store .now) (a .lens .now) (a .rows .now) (λ su. deleteWindowIn
-    (windowFrom (a .has-from) (record { secs = a .from-secs; nanos = a .from-nanos }) (a .has-to)
-    (record { secs = a .to-secs; nanos = a .to-nanos }))) (countWritten (a .«record» .now)) (c .if1 .taken)
+    changes-no-room _ _ _ _ _ _ _ _ (c .if1 .taken)
 
 short-requires : tie.Need-short-requires
 short-requires c κs = c .before .before .before .if1 .left
 
 returns-2 : tie.Need-returns-2
 returns-2 c =
-    let a = c .before .before .before .before .before .before .before .before .before .before .before .before .before .args in
-    changes-short (a .answer .now) (a .setup .now) (a .«record» .now) (a .store .now) (a .lens .now) (a .rows .now) (λ su. deleteWindowIn (windowFrom (a .has-from) (record { secs = a .from-secs; nanos = a .from-nanos }) (a .has-to) (record { secs = a .to-secs; nanos = a .to-nanos }))) (countWritten (a .«record» .now)) _ _ _ _ (c .before .before .before .before .before .before .if1 .left) (c .before .before .before .before .before .setup .ensures)
+    changes-short _ _ _ _ _ _ _ _ _ _ _ _ (c .before .before .before .before .before .before .if1 .left) (c .before .before .before .before .before .setup .ensures)
     (c .before .before .before .before .if2 .taken) refl (c .before .before .short .ensures .0) (c .before .before .short .ensures .1)
 
 with-count-requires : tie.Need-with-count-requires

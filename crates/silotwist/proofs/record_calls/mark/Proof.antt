@@ -8,14 +8,10 @@ use Rattle.silotwist.proofs.record_calls.mark.Statement.{statement}
 use Rattle.silotwist.proofs.record_calls.mark.Tie as tie
 
 returns : tie.Need-returns
-returns c = record-no-room (c .before .before .before .args .answer .now) (c .before .before .before .args .«record» .now) (markIn
-    (c .before .before .before .args .on)) (markWritten (c .before .before .before .args .«record» .now)) (c .if1 .taken)
+returns c = record-no-room _ _ _ _ (c .if1 .taken)
 
 returns-2 : tie.Need-returns-2
-returns-2 c = record-short (c .before .before .before .before .before .before .before .before .before .args .answer .now)
-    (c .before .before .before .before .before .before .before .before .before .args .«record» .now) (markIn
-    (c .before .before .before .before .before .before .before .before .before .args .on)) (markWritten
-    (c .before .before .before .before .before .before .before .before .before .args .«record» .now)) _ _ _
+returns-2 c = record-short _ _ _ _ _ _ _
     (c .before .before .before .before .before .before .if1 .left) (c .before .before .before .before .before .if2 .taken)
     (c .before .before .before .none .ensures) (c .before .before .put .ensures .0) (c .before .before .put .ensures .1)
 

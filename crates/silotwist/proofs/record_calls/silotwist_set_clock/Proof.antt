@@ -13,9 +13,7 @@ use Rattle.silotwist.proofs.record_calls.silotwist_set_clock.Statement.
 use Rattle.silotwist.proofs.record_calls.silotwist_set_clock.Tie as tie
 
 returns : tie.Need-returns
-returns c = record-no-room (c .before .before .before .args .answer .now) (c .before .before .before .args .«record» .now) (clockIn
-    (record { secs = c .before .before .before .args .secs; nanos = c .before .before .before .args .nanos })) (clockWritten
-    (c .before .before .before .args .«record» .now)) (c .if1 .taken)
+returns c = record-no-room _ _ _ _ (c .if1 .taken)
 
 returns-2 : tie.Need-returns-2
 returns-2 c =
@@ -23,10 +21,7 @@ returns-2 c =
     let p2 = p1 .before in
     let p3 = p2 .before .before in
     let p4 = p3 .before in
-    let p5 = p4 .before .before .before in
-    record-short (p5 .args .answer .now)
-    (p5 .args .«record» .now) (clockIn
-    (record { secs = p5 .args .secs; nanos = p5 .args .nanos })) (clockWritten (p5 .args .«record» .now)) _ _ _
+    record-short _ _ _ _ _ _ _
     (p4 .if1 .left) (p3 .if2 .taken) (p2 .none .ensures) (p1 .put .ensures .0) (p1 .put .ensures .1)
 
 with-clock-requires : tie.Need-with-clock-requires

@@ -7,8 +7,7 @@ use Rattle.silotwist.proofs.store_calls.silotwist_store_add.Statement.{
 use Rattle.silotwist.proofs.store_calls.silotwist_store_add.Tie as tie
 
 returns : tie.Need-returns
-returns c = let a = c .before .before .before .before .before .before .args in stores-no-room (a .answer .now) (a .setup .now) (a .store .now)
-    (a .lens .now) (λ su ps. addIn (su .spill) ps (a .«data» .now)) (c .if1 .taken)
+returns c = stores-no-room _ _ _ _ _ (c .if1 .taken)
 
 returns-2 : tie.Need-returns-2
 returns-2 c =
@@ -17,9 +16,7 @@ returns-2 c =
     let p3 = p2 .before .before .before .before .before in
     let p4 = p3 .before .before .before in
     let p5 = p4 .before in
-    let p6 = p5 .before .before .before .before .before .before in
-    let a = p6 .args in
-    stores (a .answer .now) (a .setup .now) (a .store .now) (a .lens .now) (λ su ps. addIn (su .spill) ps (a .«data» .now)) _ _ _ _ _ _ _
+    stores _ _ _ _ _ _ _ _ _ _ _ _
     (p5 .if1 .left)
     (p4 .store-setup .ensures)
     (p3 .add .ensures)
