@@ -40,15 +40,14 @@ reset-written rw₀ r r′ o p w rw′ c g x q e k =
     written-after (λ s. Unit {0}) (λ v. set (set rw₀ 0 (after v r recordOf .count)) 5 0) (λ v. set rw₀ 0 (after v r recordOf .count)) rw₀
     (resetWritten rw₀) (λ vs s u. refl) (λ v. rw c (set-getD rw₀ 0 0)) o p w rw′ g q e (rw x at k)
 
-module _ (an sw rw₀ st le ro : List ℕ) where
-  pub resets : (su : Setup) (r r′ : Record) (p : Paper) (w : Words) (n : ℕ) (rw′ st′ le′ ro′ an′ : List ℕ) → 8 ≤ length an
-      → ReadsSetup sw su → 6 ≤ length rw₀ → Stands (recordFrom rw₀) r → Writes su r st le ro (judging su r st le ro resetIn) p r′ st′ le′ ro′
-      → w ≡ wordsOf p → n ≡ w .number → an′ ≡ eight (w .values) ++ drop 8 an
-      → rw′ ≡ writtenIf (w .number) (set (set rw₀ 0 (r′ .count)) 5 (bit false)) (set rw₀ 0 (r′ .count))
-      → ScheduleFaces sw (word rw₀ 0) (judgedCall an sw rw₀ st le ro (λ su. resetIn)) (resetWritten rw₀) rw₀ st le ro an n rw′ st′ le′ ro′ an′
-  resets su r r′ p w n rw′ st′ le′ ro′ an′ h s l t x e i j m =
-      carries an sw rw₀ st le ro (λ v. resetIn) (resetWritten rw₀) su r r′ p w n rw′ st′ le′ ro′ an′ h s l t x e i j
-      (reset-written rw₀ r r′ (judging su r st le ro resetIn) p w rw′ (stands-count rw₀ r t) (reset-ends su r st le ro) (x .next) (x .answer) e m)
+pub resets : {an sw rw₀ st le ro : List ℕ} {su : Setup} {r r′ : Record} {p : Paper} {w : Words} {n : ℕ} {rw′ st′ le′ ro′ an′ : List ℕ} → 8 ≤ length an
+    → ReadsSetup sw su → 6 ≤ length rw₀ → Stands (recordFrom rw₀) r → Writes su r st le ro (judging su r st le ro resetIn) p r′ st′ le′ ro′
+    → w ≡ wordsOf p → n ≡ w .number → an′ ≡ eight (w .values) ++ drop 8 an
+    → rw′ ≡ writtenIf (w .number) (set (set rw₀ 0 (r′ .count)) 5 (bit false)) (set rw₀ 0 (r′ .count))
+    → ScheduleFaces sw (word rw₀ 0) (judgedCall an sw rw₀ st le ro (λ su. resetIn)) (resetWritten rw₀) rw₀ st le ro an n rw′ st′ le′ ro′ an′
+resets {rw₀ = rw₀} {st} {le} {ro} {su} {r} {r′} {p} {w} {rw′ = rw′} h s l t x e i j m =
+    carries (λ v. resetIn) h s l t x e i j
+    (reset-written rw₀ r r′ (judging su r st le ro resetIn) p w rw′ (stands-count rw₀ r t) (reset-ends su r st le ro) (x .next) (x .answer) e m)
 
 -- all six words after a fresh start
 all-written : (rw₀ : List ℕ) (r r′ : Record) (o : Outcome State) (p : Paper) (w : Words) (rw′ : List ℕ) → Ends (λ s. Unit {0}) o
@@ -58,7 +57,7 @@ all-written rw₀ r r′ o p w rw′ g x q e k =
     written-after (λ s. Unit {0}) (λ v. recordSet rw₀ (after v r recordOf)) (λ v. rw₀) rw₀ (allWritten rw₀) (λ vs s u. refl) (λ v. refl)
     o p w rw′ g q e (rw x at k)
 
-module _ (an sw rw₀ st le ro : List ℕ) (clock : UnixTime) (margin : Margin) where
+module _ (st le ro : List ℕ) (clock : UnixTime) (margin : Margin) where
   abbrev pub startBy : Setup → Record → Outcome State
   startBy su r = startIn su (length st) (length le) (length ro) clock margin
 
@@ -70,23 +69,21 @@ module _ (an sw rw₀ st le ro : List ℕ) (clock : UnixTime) (margin : Margin) 
   unfolding startIn
   start-ends su r = ends-unless _ _ 0 _ (ends-unless _ _ 1 _ (ends-unless _ _ 3 _ (ends-done _ _ _ tt)))
 
-  pub starts : (su : Setup) (r r′ : Record) (p : Paper) (w : Words) (n : ℕ) (rw′ st′ le′ ro′ an′ : List ℕ) → 8 ≤ length an
-      → ReadsSetup sw su → 6 ≤ length rw₀ → Starts su r st le ro (startBy su r) p r′ st′ le′ ro′
-      → w ≡ wordsOf p → n ≡ w .number → an′ ≡ eight (w .values) ++ drop 8 an → rw′ ≡ writtenIf (w .number) (recordSet rw₀ r′) rw₀
-      → ScheduleFaces sw (word sw 2) (scheduleCall an sw rw₀ startBy) (allWritten rw₀) rw₀ st le ro an n rw′ st′ le′ ro′ an′
-  starts su r r′ p w n rw′ st′ le′ ro′ an′ h s l x e i j k =
-      faces-done an sw rw₀ st le ro startBy (word sw 2) (allWritten rw₀) su r p w n rw′ st′ le′ ro′ an′ h s
-      (worded-is an sw rw₀ startBy start-bad r (λ v. refl) su s l) (x .answer) e i j
-      (all-written rw₀ r r′ (startBy su r) p w rw′ (start-ends su r) (x .next) (x .answer) e k)
-      (x .store) (x .lens) (x .rows ∙ ap (λ m. after (startBy su r) ro (λ v. relaid ro m (v .entries))) (s .entries))
+starts : {an sw rw₀ st le ro : List ℕ} (t : UnixTime) (m : Margin) {su : Setup} {r r′ : Record} {p : Paper} {w : Words} {n : ℕ}
+    {rw′ st′ le′ ro′ an′ : List ℕ} → 8 ≤ length an → ReadsSetup sw su → 6 ≤ length rw₀
+    → Starts su r st le ro (startBy st le ro t m su r) p r′ st′ le′ ro′
+    → w ≡ wordsOf p → n ≡ w .number → an′ ≡ eight (w .values) ++ drop 8 an → rw′ ≡ writtenIf (w .number) (recordSet rw₀ r′) rw₀
+    → ScheduleFaces sw (word sw 2) (scheduleCall an sw rw₀ (startBy st le ro t m)) (allWritten rw₀) rw₀ st le ro an n rw′ st′ le′ ro′ an′
+starts {an} {sw} {rw₀} {st} {le} {ro} t m {su} {r} {r′} {p} {w} {rw′ = rw′} h s l x e i j k =
+    faces-done (startBy st le ro t m) r h s
+    (worded-is an sw rw₀ (startBy st le ro t m) (start-bad st le ro t m) r (λ v. refl) su s l) (x .answer) e i j
+    (all-written rw₀ r r′ (startBy st le ro t m su r) p w rw′ (start-ends st le ro t m su r) (x .next) (x .answer) e k)
+    (x .store) (x .lens) (x .rows ∙ ap (λ b. after (startBy st le ro t m su r) ro (λ v. relaid ro b (v .entries))) (s .entries))
 
 -- the same, for a clock made from C's parameters
-pub starts-at : (an sw rw₀ st le ro : List ℕ) (x y : UnixTime) (margin : Margin) → x ≡ y → (su : Setup) (r r′ : Record) (p : Paper) (w : Words)
-    (n : ℕ)
-    (rw′ st′ le′ ro′ an′ : List ℕ) → 8 ≤ length an → ReadsSetup sw su → 6 ≤ length rw₀
-    → Starts su r st le ro (startIn su (length st) (length le) (length ro) x margin) p r′ st′ le′ ro′
+pub starts-at : {an sw rw₀ st le ro : List ℕ} {x y : UnixTime} (m : Margin) → x ≡ y → {su : Setup} {r r′ : Record} {p : Paper} {w : Words} {n : ℕ}
+    {rw′ st′ le′ ro′ an′ : List ℕ} → 8 ≤ length an → ReadsSetup sw su → 6 ≤ length rw₀
+    → Starts su r st le ro (startBy st le ro x m su r) p r′ st′ le′ ro′
     → w ≡ wordsOf p → n ≡ w .number → an′ ≡ eight (w .values) ++ drop 8 an → rw′ ≡ writtenIf (w .number) (recordSet rw₀ r′) rw₀
-    → ScheduleFaces sw (word sw 2) (scheduleCall an sw rw₀ (λ v q. startIn v (length st) (length le) (length ro) y margin)) (allWritten rw₀)
-    rw₀ st le ro an n rw′ st′ le′ ro′ an′
-starts-at an sw rw₀ st le ro x y margin e su r r′ p w n rw′ st′ le′ ro′ an′ h s l q d i j k =
-    rw (← e) (starts an sw rw₀ st le ro x margin su r r′ p w n rw′ st′ le′ ro′ an′ h s l q d i j k)
+    → ScheduleFaces sw (word sw 2) (scheduleCall an sw rw₀ (startBy st le ro y m)) (allWritten rw₀) rw₀ st le ro an n rw′ st′ le′ ro′ an′
+starts-at {x = x} m e h s l q d i j k = rw (← e) (starts x m h s l q d i j k)

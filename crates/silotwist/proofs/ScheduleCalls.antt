@@ -145,47 +145,48 @@ module _ {A : Type 0} (an sw rw₀ st le ro : List ℕ) (call : Setup → State 
       worded-is an sw rw₀ judgedOf (λ v y e. bad-judged v y st le ro (call v) e) r (λ v. stands-judged v (recordFrom rw₀) r st le ro
       (call v) t) su s l
 
-  -- calls that only answer
+-- calls that only answer
+module _ {A : Type 0} (an sw rw₀ st le ro : List ℕ) (call : Setup → State → Outcome A) where
   pub looks-no-room : length an < 8 → Answers (judgedCall an sw rw₀ st le ro call) an 2 an
   unfolding judgedCall
-  looks-no-room h = asks-no-room an sw rw₀ judgedOf h
+  looks-no-room h = asks-no-room an sw rw₀ (judgedOf an sw rw₀ st le ro call) h
 
-  pub looks-short : (su : Setup) (w : Words) (n : ℕ) (an′ : List ℕ) → 8 ≤ length an → ReadsSetup sw su → length rw₀ < 6 → w ≡ wordsOf
-      (shortPaper su)
+  pub looks-short : {su : Setup} {w : Words} {n : ℕ} {an′ : List ℕ} → 8 ≤ length an → ReadsSetup sw su → length rw₀ < 6
+      → w ≡ wordsOf (shortPaper su) → n ≡ w .number → an′ ≡ eight (w .values) ++ drop 8 an
+      → Answers (judgedCall an sw rw₀ st le ro call) an n an′
+  unfolding judgedCall
+  looks-short {su} {w} {n} {an′} = asks-short an sw rw₀ (judgedOf an sw rw₀ st le ro call) su w n an′
+
+  pub looks : {su : Setup} {r : Record} {p : Paper} {w : Words} {n : ℕ} {an′ : List ℕ} → 8 ≤ length an → ReadsSetup sw su → 6 ≤ length rw₀
+      → Stands (recordFrom rw₀) r → p ≡ says (judging su r st le ro (call su)) → w ≡ wordsOf p
       → n ≡ w .number → an′ ≡ eight (w .values) ++ drop 8 an → Answers (judgedCall an sw rw₀ st le ro call) an n an′
   unfolding judgedCall
-  looks-short = asks-short an sw rw₀ judgedOf
-
-  pub looks : (su : Setup) (r : Record) (p : Paper) (w : Words) (n : ℕ) (an′ : List ℕ) → 8 ≤ length an → ReadsSetup sw su → 6 ≤ length rw₀
-      → Stands (recordFrom rw₀) r → p ≡ says (judgedOf su r) → w ≡ wordsOf p
-      → n ≡ w .number → an′ ≡ eight (w .values) ++ drop 8 an → Answers (judgedCall an sw rw₀ st le ro call) an n an′
-  unfolding judgedCall
-  looks su r p w n an′ h s l t q e i j = asks-done an sw rw₀ judgedOf su r p w n an′ h (judged-is su r s t l) q e i j
+  looks {su} {r} {p} {w} {n} {an′} h s l t q e i j =
+      asks-done an sw rw₀ (judgedOf an sw rw₀ st le ro call) su r p w n an′ h (judged-is an sw rw₀ st le ro call su r s t l) q e i j
 
 -- calls that write
-module _ (an sw rw₀ st le ro : List ℕ) (call : Setup → Record → Outcome State) (k : ℕ) (written : State → List ℕ) where
+module _ {an sw rw₀ st le ro : List ℕ} (call : Setup → Record → Outcome State) {k : ℕ} {written : State → List ℕ} where
   pub faces-no-room : length an < 8 → ScheduleFaces sw k (scheduleCall an sw rw₀ call) written rw₀ st le ro an 2 rw₀ st le ro an
   unfolding scheduleCall after
   faces-no-room h =
       let e = no-room an (worded an sw rw₀ call) h in
       record { answer = asks-no-room an sw rw₀ call h; words = rw e; store = rw e; lens = rw e; rows = rw e }
 
-  pub faces-short : (su : Setup) (w : Words) (n : ℕ) (an′ : List ℕ) → 8 ≤ length an → ReadsSetup sw su → length rw₀ < 6 → w ≡ wordsOf
-      (shortPaper su)
-      → n ≡ w .number → an′ ≡ eight (w .values) ++ drop 8 an
+  pub faces-short : {su : Setup} {w : Words} {n : ℕ} {an′ : List ℕ} → 8 ≤ length an → ReadsSetup sw su → length rw₀ < 6
+      → w ≡ wordsOf (shortPaper su) → n ≡ w .number → an′ ≡ eight (w .values) ++ drop 8 an
       → ScheduleFaces sw k (scheduleCall an sw rw₀ call) written rw₀ st le ro an n rw₀ st le ro an′
   unfolding scheduleCall after
-  faces-short su w n an′ h r l e i j =
+  faces-short {su} {w} {n} {an′} h r l e i j =
       let q = with-room an (worded an sw rw₀ call) h ∙ short-is an sw rw₀ call su r l in
       record { answer = asks-short an sw rw₀ call su w n an′ h r l e i j; words = rw q; store = rw q; lens = rw q; rows = rw q }
 
-  pub faces-done : (su : Setup) (r : Record) (p : Paper) (w : Words) (n : ℕ) (rw′ st′ le′ ro′ an′ : List ℕ) → 8 ≤ length an → ReadsSetup sw su
+  pub faces-done : {su : Setup} (r : Record) {p : Paper} {w : Words} {n : ℕ} {rw′ st′ le′ ro′ an′ : List ℕ} → 8 ≤ length an → ReadsSetup sw su
       → call su r ≡ worded an sw rw₀ call → p ≡ says (call su r) → w ≡ wordsOf p → n ≡ w .number → an′ ≡ eight (w .values) ++ drop 8 an
       → rw′ ≡ after (call su r) rw₀ written → st′ ≡ after (call su r) st (λ s. storeWith (su .store) st (s .pools))
       → le′ ≡ after (call su r) le (λ s. lensWith (su .store) le (s .pools)) → ro′ ≡ after (call su r) ro (λ s. relaid ro k (s .entries))
       → ScheduleFaces sw k (scheduleCall an sw rw₀ call) written rw₀ st le ro an n rw′ st′ le′ ro′ an′
   unfolding scheduleCall
-  faces-done su r p w n rw′ st′ le′ ro′ an′ h t q s e i j a b d f =
+  faces-done {su} r {p} {w} {n} {rw′} {st′} {le′} {ro′} {an′} h t q s e i j a b d f =
       let o = with-room an (worded an sw rw₀ call) h in
       record {
         answer = asks-done an sw rw₀ call su r p w n an′ h q s e i j;
@@ -206,51 +207,47 @@ pub stands-count : (rw₀ : List ℕ) (r : Record) → Stands (recordFrom rw₀)
 unfolding recordFrom
 stands-count rw₀ r s = s .count
 
-module _ (an sw rw₀ st le ro : List ℕ) (call : Setup → State → Outcome State) where
-  pub changes-no-room : (written : State → List ℕ) → length an < 8
+module _ {an sw rw₀ st le ro : List ℕ} (call : Setup → State → Outcome State) where
+  pub changes-no-room : {written : State → List ℕ} → length an < 8
       → ScheduleFaces sw (word rw₀ 0) (judgedCall an sw rw₀ st le ro call) written rw₀ st le ro an 2 rw₀ st le ro an
   unfolding judgedCall
-  changes-no-room written h = faces-no-room an sw rw₀ st le ro (judgedOf an sw rw₀ st le ro call) (word rw₀ 0) written h
+  changes-no-room h = faces-no-room (judgedOf an sw rw₀ st le ro call) h
 
-  pub changes-short : (written : State → List ℕ) (su : Setup) (w : Words) (n : ℕ) (an′ : List ℕ) → 8 ≤ length an → ReadsSetup sw su
-      → length rw₀ < 6
-      → w ≡ wordsOf (shortPaper su) → n ≡ w .number → an′ ≡ eight (w .values) ++ drop 8 an
+  pub changes-short : {written : State → List ℕ} {su : Setup} {w : Words} {n : ℕ} {an′ : List ℕ} → 8 ≤ length an → ReadsSetup sw su
+      → length rw₀ < 6 → w ≡ wordsOf (shortPaper su) → n ≡ w .number → an′ ≡ eight (w .values) ++ drop 8 an
       → ScheduleFaces sw (word rw₀ 0) (judgedCall an sw rw₀ st le ro call) written rw₀ st le ro an n rw₀ st le ro an′
   unfolding judgedCall
-  changes-short written = faces-short an sw rw₀ st le ro (judgedOf an sw rw₀ st le ro call) (word rw₀ 0) written
+  changes-short = faces-short (judgedOf an sw rw₀ st le ro call)
 
-  pub carries : (written : State → List ℕ) (su : Setup) (r r′ : Record) (p : Paper) (w : Words) (n : ℕ) (rw′ st′ le′ ro′ an′ : List ℕ)
-      → 8 ≤ length an
-      → ReadsSetup sw su → 6 ≤ length rw₀ → Stands (recordFrom rw₀) r → Writes su r st le ro (judging su r st le ro (call su)) p r′ st′ le′ ro′
+  pub carries : {written : State → List ℕ} {su : Setup} {r r′ : Record} {p : Paper} {w : Words} {n : ℕ} {rw′ st′ le′ ro′ an′ : List ℕ}
+      → 8 ≤ length an → ReadsSetup sw su → 6 ≤ length rw₀ → Stands (recordFrom rw₀) r
+      → Writes su r st le ro (judging su r st le ro (call su)) p r′ st′ le′ ro′
       → w ≡ wordsOf p → n ≡ w .number → an′ ≡ eight (w .values) ++ drop 8 an → rw′ ≡ after (judging su r st le ro (call su)) rw₀ written
       → ScheduleFaces sw (word rw₀ 0) (judgedCall an sw rw₀ st le ro call) written rw₀ st le ro an n rw′ st′ le′ ro′ an′
   unfolding judgedCall
-  carries written su r r′ p w n rw′ st′ le′ ro′ an′ h s l t x e i j a =
-      faces-done an sw rw₀ st le ro (judgedOf an sw rw₀ st le ro call) (word rw₀ 0) written su r p w n rw′ st′ le′ ro′ an′ h s
+  carries {su = su} {r = r} h s l t x e i j a =
+      faces-done (judgedOf an sw rw₀ st le ro call) r h s
       (judged-is an sw rw₀ st le ro call su r s t l) (x .answer) e i j a (x .store) (x .lens)
       (x .rows ∙ ap (λ m. after (judging su r st le ro (call su)) ro (λ v. relaid ro m (v .entries))) (stands-count rw₀ r t))
 
-  pub changes : (su : Setup) (r r′ : Record) (p : Paper) (w : Words) (n : ℕ) (rw′ st′ le′ ro′ an′ : List ℕ) → 8 ≤ length an
+  pub changes : {su : Setup} {r r′ : Record} {p : Paper} {w : Words} {n : ℕ} {rw′ st′ le′ ro′ an′ : List ℕ} → 8 ≤ length an
       → ReadsSetup sw su → 6 ≤ length rw₀ → Stands (recordFrom rw₀) r → Writes su r st le ro (judging su r st le ro (call su)) p r′ st′ le′ ro′
       → w ≡ wordsOf p → n ≡ w .number → an′ ≡ eight (w .values) ++ drop 8 an → rw′ ≡ set rw₀ 0 (r′ .count)
       → ScheduleFaces sw (word rw₀ 0) (judgedCall an sw rw₀ st le ro call) (countWritten rw₀) rw₀ st le ro an n rw′ st′ le′ ro′ an′
-  changes su r r′ p w n rw′ st′ le′ ro′ an′ h s l t x e i j a =
-      carries (countWritten rw₀) su r r′ p w n rw′ st′ le′ ro′ an′ h s l t x e i j
+  changes {su} {r} {r′} h s l t x e i j a =
+      carries h s l t x e i j
       (a ∙ count-after rw₀ r r′ (judging su r st le ro (call su)) (stands-count rw₀ r t) (x .next))
 
 -- the same, where an argument was made from C's parameters
-pub looks-at : {A X : Type 0} (an sw rw₀ st le ro : List ℕ) (F : X → Setup → State → Outcome A) (x y : X) → x ≡ y → (su : Setup) (r : Record)
-    (p : Paper)
-    (w : Words) (n : ℕ) (an′ : List ℕ) → 8 ≤ length an → ReadsSetup sw su → 6 ≤ length rw₀ → Stands (recordFrom rw₀) r
+pub looks-at : {A X : Type 0} (an sw rw₀ st le ro : List ℕ) (F : X → Setup → State → Outcome A) {x y : X} → x ≡ y → {su : Setup} {r : Record}
+    {p : Paper} {w : Words} {n : ℕ} {an′ : List ℕ} → 8 ≤ length an → ReadsSetup sw su → 6 ≤ length rw₀ → Stands (recordFrom rw₀) r
     → p ≡ says (judging su r st le ro (F x su)) → w ≡ wordsOf p → n ≡ w .number → an′ ≡ eight (w .values) ++ drop 8 an
     → Answers (judgedCall an sw rw₀ st le ro (F y)) an n an′
-looks-at an sw rw₀ st le ro F x y e su r p w n an′ h s l t q d i j = rw (← e) (looks an sw rw₀ st le ro (F x) su r p w n an′ h s l t q d i j)
+looks-at an sw rw₀ st le ro F {x} e h s l t q d i j = rw (← e) (looks an sw rw₀ st le ro (F x) h s l t q d i j)
 
-pub changes-at : {X : Type 0} (an sw rw₀ st le ro : List ℕ) (F : X → Setup → State → Outcome State) (x y : X) → x ≡ y → (su : Setup)
-    (r r′ : Record)
-    (p : Paper) (w : Words) (n : ℕ) (rw′ st′ le′ ro′ an′ : List ℕ) → 8 ≤ length an
+pub changes-at : {X : Type 0} {an sw rw₀ st le ro : List ℕ} (F : X → Setup → State → Outcome State) {x y : X} → x ≡ y → {su : Setup}
+    {r r′ : Record} {p : Paper} {w : Words} {n : ℕ} {rw′ st′ le′ ro′ an′ : List ℕ} → 8 ≤ length an
     → ReadsSetup sw su → 6 ≤ length rw₀ → Stands (recordFrom rw₀) r → Writes su r st le ro (judging su r st le ro (F x su)) p r′ st′ le′ ro′
     → w ≡ wordsOf p → n ≡ w .number → an′ ≡ eight (w .values) ++ drop 8 an → rw′ ≡ set rw₀ 0 (r′ .count)
     → ScheduleFaces sw (word rw₀ 0) (judgedCall an sw rw₀ st le ro (F y)) (countWritten rw₀) rw₀ st le ro an n rw′ st′ le′ ro′ an′
-changes-at an sw rw₀ st le ro F x y e su r r′ p w n rw′ st′ le′ ro′ an′ h s l t q d i j k =
-    rw (← e) (changes an sw rw₀ st le ro (F x) su r r′ p w n rw′ st′ le′ ro′ an′ h s l t q d i j k)
+changes-at F {x} e h s l t q d i j k = rw (← e) (changes (F x) h s l t q d i j k)

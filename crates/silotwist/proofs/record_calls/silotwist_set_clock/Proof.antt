@@ -13,7 +13,7 @@ use Rattle.silotwist.proofs.record_calls.silotwist_set_clock.Statement.
 use Rattle.silotwist.proofs.record_calls.silotwist_set_clock.Tie as tie
 
 returns : tie.Need-returns
-returns c = record-no-room _ _ _ _ (c .if1 .taken)
+returns c = record-no-room _ (c .if1 .taken)
 
 returns-2 : tie.Need-returns-2
 returns-2 c =
@@ -21,8 +21,7 @@ returns-2 c =
     let p2 = p1 .before in
     let p3 = p2 .before .before in
     let p4 = p3 .before in
-    record-short _ _ _ _ _ _ _
-    (p4 .if1 .left) (p3 .if2 .taken) (p2 .none .ensures) (p1 .put .ensures .0) (p1 .put .ensures .1)
+    record-short _ (p4 .if1 .left) (p3 .if2 .taken) (p2 .none .ensures) (p1 .put .ensures .0) (p1 .put .ensures .1)
 
 with-clock-requires : tie.Need-with-clock-requires
 with-clock-requires c κs =
@@ -39,10 +38,8 @@ returns-3 c =
     let p6 = p5 .before in
     let p7 = p6 .before .before .before in
     let f : SFits w64 (p7 .args .secs) = search needs in
-    clock-face (p7 .args .answer .now) (p7 .args .«record» .now) _ (p4 .«record» .ensures) _ _ (p2 .done .ensures) _ _ _
-    (p6 .if1 .left)
-    (p5 .if2 .left)
-    (p1 .with-clock .ensures .number) (p1 .with-clock .ensures .words) _ _
+    clock-face (p6 .if1 .left) (p5 .if2 .left) (p4 .«record» .ensures) (p2 .done .ensures) (p1 .with-clock .ensures .number)
+    (p1 .with-clock .ensures .words)
     (ap (λ (z : ℤ). record { secs = z; nanos = p7 .args .nanos }) (toZ-ofZ f)) (p3 .clocked .ensures) (p1 .with-clock .ensures .written)
 
 pub silotwist-set-clock-spec : {M : Type 1} → statement M

@@ -8,16 +8,16 @@ use Rattle.silotwist.proofs.schedule_calls.silotwist_reset.Statement.{s
 use Rattle.silotwist.proofs.schedule_calls.silotwist_reset.Tie as tie
 
 returns : tie.Need-returns
-returns c = changes-no-room _ _ _ _ _ _ _ _ (c .if1 .taken)
+returns c = changes-no-room _ (c .if1 .taken)
 
 short-requires : tie.Need-short-requires
 short-requires c κs = c .before .before .before .if1 .left
 
 returns-2 : tie.Need-returns-2
 returns-2 c =
-    changes-short _ _ _ _ _ _ _ _ _ _ _ _ (c .before .before .before .before .before .before .if1 .left)
-    (c .before .before .before .before .before .setup .ensures) (c .before .before .before .before .if2 .taken) refl
-    (c .before .before .short .ensures .0) (c .before .before .short .ensures .1)
+    let p = c .before .before in
+    changes-short _ (p .before .before .before .before .if1 .left) (p .before .before .before .setup .ensures) (p .before .before .if2 .taken) refl
+    (p .short .ensures .0) (p .short .ensures .1)
 
 with-reset-requires : tie.Need-with-reset-requires
 with-reset-requires c κs =
@@ -33,7 +33,7 @@ returns-3 c =
     let p5 = p4 .before .before in
     let p6 = p5 .before in
     let p7 = p6 .before in
-    resets _ _ _ _ _ _ _ _ _ _ _ _ _ _ _ _ _
+    resets
     (p7 .if1 .left) (p6 .setup .ensures) (p5 .if2 .left) (p4 .«record» .ensures)
     (p3 .reset .ensures)
     (p2 .cleared .ensures)

@@ -7,7 +7,7 @@ use Rattle.silotwist.proofs.store_calls.silotwist_store_delete.Statemen
 use Rattle.silotwist.proofs.store_calls.silotwist_store_delete.Tie as tie
 
 returns : tie.Need-returns
-returns c = stores-no-room _ _ _ _ _ (c .if1 .taken)
+returns c = stores-no-room _ (c .if1 .taken)
 
 returns-2 : tie.Need-returns-2
 returns-2 c =
@@ -16,8 +16,7 @@ returns-2 c =
     let p3 = p2 .before .before .before .before .before in
     let p4 = p3 .before .before .before in
     let p5 = p4 .before in
-    stores _ _ _ _ _ _ _ _ _ _ _ _
-    (p5 .if1 .left)
+    stores _ (p5 .if1 .left)
     (p4 .store-setup .ensures)
     (p3 .delete .ensures)
     (p2 .deleted .ensures)

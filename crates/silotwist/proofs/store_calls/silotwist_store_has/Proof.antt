@@ -11,8 +11,7 @@ returns c = asks-no-room _ _ _ _ _ (c .if1 .taken)
 
 returns-2 : tie.Need-returns-2
 returns-2 c =
-    asks _ _ _ _ _ _ _ _ _ _
-    (c .before .before .before .before .before .before .before .if1 .left)
+    asks _ _ _ _ _ (c .before .before .before .before .before .before .before .if1 .left)
     (c .before .before .before .before .before .before .store-setup .ensures) (c .before .before .before .before .before .has-element-at .ensures)
     (c .before .before .before .before .presence .ensures)
     (c .before .before .put .ensures .0) (c .before .before .put .ensures .1)

@@ -12,8 +12,7 @@ returns c = asks-no-room _ _ _ _ _ (c .if1 .taken)
 
 returns-2 : tie.Need-returns-2
 returns-2 c =
-    asks _ _ _ _ _ _ _ _ _ _
-    (c .before .before .before .before .before .before .if1 .left)
+    asks _ _ _ _ _ (c .before .before .before .before .before .before .if1 .left)
     (c .before .before .before .before .before .store-setup .ensures) refl (c .before .before .before .before .part .ensures)
     (c .before .before .put .ensures .0) (c .before .before .put .ensures .1)
 

@@ -11,7 +11,7 @@ returns c = buffers-no-room _ _ _ _ _ _ (c .if1 .taken)
 
 returns-2 : tie.Need-returns-2
 returns-2 c =
-    buffers _ _ _ _ _ _ _ _ _ _ _ _ (c .before .before .before .before .before .before .before .before .before .before .if1 .left)
+    buffers _ _ _ _ _ _ (c .before .before .before .before .before .before .before .before .before .before .if1 .left)
     (c .before .before .before .before .before .before .before .before .before .store-setup .ensures)
     (c .before .before .before .before .before .before .before .read .ensures) (c .before .before .before .before .length .ensures)
     (c .before .before .put .ensures .0) (c .before .before .put .ensures .1)

@@ -19,13 +19,17 @@ loop-holds : tie.Need-loop-holds Inv-loop μ-loop
 loop-holds c = refl
 
 loop-again : tie.Need-loop-again Inv-loop μ-loop
-loop-again c = let l = c .before .before .before .before .before .before .before .loop in
-    digits-more _ (l .v) _ (l .i) (c .before .before .before .before .before .before .loop-test .taken) (sym (c .before .before .before .before .is-digit .ensures) ∙ c .before .before .before .if1 .taken)
+loop-again c =
+    let l = c .before .before .before .before .before .before .before .loop in
+    digits-more _ (l .v) _ (l .i) (c .before .before .before .before .before .before .loop-test .taken)
+    (sym (c .before .before .before .before .is-digit .ensures) ∙ c .before .before .before .if1 .taken)
     (c .with-digit .ensures ∙ ap (λ (d : ℕ). held (l .v * 10 + d)) (c .before .over-zero .ensures))
     ∙ l .inv
 
 returns : tie.Need-returns Inv-loop μ-loop
-returns c = let l = c .before .before .before .before .loop in sym (digits-stop _ (l .v) (l .i) (c .before .before .before .loop-test .taken) (sym (c .before .is-digit .ensures) ∙ c .if1 .left)) ∙ l .inv
+returns c =
+    let l = c .before .before .before .before .loop in
+    sym (digits-stop _ (l .v) (l .i) (c .before .before .before .loop-test .taken) (sym (c .before .is-digit .ensures) ∙ c .if1 .left)) ∙ l .inv
 
 returns-2 : tie.Need-returns-2 Inv-loop μ-loop
 returns-2 c = let l = c .before .loop in sym (digits-end _ (l .v) (l .i) (c .loop-test .left)) ∙ l .inv

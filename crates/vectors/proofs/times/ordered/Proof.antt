@@ -5,7 +5,11 @@ use Rattle.vectors.proofs.times.ordered.Statement.{statement}
 use Rattle.vectors.proofs.times.ordered.Tie as tie
 
 is-before-requires : tie.Need-is-before-requires
-is-before-requires c κs = let start = c .before .before in (record { nanos = rw (c .before .to-moment .ensures) (start .pre .0 .nanos) }, record { nanos = rw (c .to-moment2 .ensures) (start .pre .1 .nanos) })
+is-before-requires c κs =
+    let start = c .before .before in (
+      record { nanos = rw (c .before .to-moment .ensures) (start .pre .0 .nanos) },
+      record { nanos = rw (c .to-moment2 .ensures) (start .pre .1 .nanos) },
+    )
 
 pub ordered-spec : {M : Type 1} → statement M
 ordered-spec =

@@ -6,7 +6,9 @@ use Rattle.vectors.proofs.times.there_and_back.Statement.{statement}
 use Rattle.vectors.proofs.times.there_and_back.Tie as tie
 
 to-unix-time-requires : tie.Need-to-unix-time-requires
-to-unix-time-requires c κs = let moment = c .before .before .before in rw (moment .to-moment .ensures) (biased-le (moment .before .args .t .secs) (moment .before .pre .secs))
+to-unix-time-requires c κs =
+    let moment = c .before .before .before in
+    rw (moment .to-moment .ensures) (biased-le (moment .before .args .t .secs) (moment .before .pre .secs))
 
 pub there-and-back-spec : {M : Type 1} → statement M
 there-and-back-spec =
