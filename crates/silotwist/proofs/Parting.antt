@@ -20,7 +20,7 @@ use Rattle.silotwist.specs.StoreFace.{partIn}
 use Rattle.face_words.specs.declared.Words.{Words}
 use lib.ListN.{take}
 use mathlib.Core.List.{List, [], _∷_}
-use mathlib.Core.Path.{_∙_, _≡_, ap, refl, sym}
+use mathlib.Core.Path.{_∙_, _≡_}
 use native.Mathlib.Omega.{arith}
 
 abbrev Placed : ℕ → ℕ → Found → Outcome (Unit {0})

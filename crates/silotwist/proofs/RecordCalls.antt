@@ -9,7 +9,6 @@ use Rattle.rules.specs.Papers.{Outcome, after, no, refused, says}
 use Rattle.rules.specs.Tests.{unless}
 use Rattle.time.specs.declared.UnixTime.{UnixTime}
 use Rattle.silotwist.proofs.Answering.{answers, answers-no-room, no-room, with-room}
-use Rattle.silotwist.specs.Face.{Answers, answering}
 use Rattle.silotwist.proofs.Writing.{Ends, ends-done, ends-unless, written-after}
 use Rattle.face_reading.proofs.Standing.{stands-same}
 use Rattle.face_reading.specs.Inside.{Stands}

@@ -10,10 +10,9 @@ use Rattle.schedule.specs.Judge.{buffersOk, judging, setupOk, stateOk}
 use Rattle.schedule.specs.Promise.{Writes}
 use Rattle.schedule.specs.State.{State, recordOf}
 use Rattle.schedule.specs.declared.Setup.{Setup}
-use Rattle.layout.specs.Judge.{lensOk, setupOk as storeSetupOk}
+use Rattle.layout.specs.Judge.{setupOk as storeSetupOk}
 use Rattle.slots.specs.View.{lensWith, storeWith}
-use Rattle.rows.specs.Entries.{relaid, unpack}
-use Rattle.rows.specs.Order.{ordered}
+use Rattle.rows.specs.Entries.{relaid}
 use Rattle.silotwist.proofs.Answering.{answers, answers-no-room, no-room, with-room}
 use Rattle.face_reading.proofs.Standing.{stands-same}
 use Rattle.silotwist.specs.Face.{Answers}
@@ -28,9 +27,8 @@ use borrow.Author.Tests.{le-leb, lt-leb}
 use lib.Dec.{leb}
 use lib.ListN.{drop, length, set}
 use lib.Seq.{set-getD}
-use native.Mathlib.Omega.{arith}
 use mathlib.Core.Bool.{Bool, _&&_, cond, false, true}
-use mathlib.Core.List.{List, [], _++_, _∷_}
+use mathlib.Core.List.{List, [], _++_}
 use mathlib.Core.Path.{_∙_, _≡_, ap, ap₂, refl, sym}
 
 store-bad : (su : Setup) → storeSetupOk (su .store) ≡ false → setupOk su ≡ false

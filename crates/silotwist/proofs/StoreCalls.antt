@@ -11,7 +11,7 @@ use Rattle.store.specs.Promise.{Writes}
 use Rattle.lookup.specs.Promise.{Reads}
 use Rattle.layout.specs.declared.Setup.{Setup}
 use Rattle.silotwist.proofs.Answering.{answers, answers-no-room, no-room, with-room}
-use Rattle.silotwist.specs.Face.{Answers, answering}
+use Rattle.silotwist.specs.Face.{Answers}
 use Rattle.face_reading.specs.Inside.{ReadsStore, fine}
 use Rattle.face_words.specs.Inside.{eight, wordsOf}
 use Rattle.face_reading.specs.Reading.{storeSetup, wellCounted}

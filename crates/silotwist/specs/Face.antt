@@ -1,7 +1,7 @@
 -- What every call of the C face has in common: the number that it returns, and the first 8 words of the lent answer.
 use Prim.Native.Nat.{ℕ}
 use Rattle.face_words.specs.Padding.{answerWords, padded}
-use Rattle.rules.specs.Papers.{Outcome, Paper, no, refused, says}
+use Rattle.rules.specs.Papers.{Outcome, no, refused, says}
 use Rattle.rules.specs.Tests.{unless}
 use lib.Dec.{leb}
 use lib.ListN.{drop, length}

@@ -11,7 +11,7 @@ use Rattle.lookup.specs.Refusals.{bit}
 use Rattle.slots.specs.View.{lensWith, storeWith}
 use Rattle.rows.specs.Entries.{relaid}
 use lib.ListN.{drop, length, set}
-use mathlib.Core.List.{List, [], _++_, _∷_}
+use mathlib.Core.List.{List, [], _∷_}
 use mathlib.Core.Path.{_≡_}
 use Rattle.silotwist.specs.Face.{Answers, answering}
 use Rattle.face_reading.specs.Reading.{recordFrom, recordWords, setupFrom, storeSetup, wellCounted}

@@ -1,7 +1,5 @@
 -- `silotwist::delete_calls::silotwist_delete_by_id_keep` meets its contract.
 -- Assumes nothing.
-use Rattle.by_id.specs.ById.{deleteKeepingIn}
-use Rattle.silotwist.specs.ScheduleFace.{countWritten}
 use Rattle.silotwist.proofs.ScheduleCalls.{changes, changes-no-room, changes-short}
 use mathlib.Core.Path.{refl}
 use borrow.Author.Needs.{needs}

@@ -2,7 +2,6 @@
 -- Assumes nothing.
 use Rattle.deletions.specs.Deleting.{deleteWindowIn}
 use Rattle.face_reading.specs.Reading.{windowFrom}
-use Rattle.silotwist.specs.ScheduleFace.{countWritten}
 use Rattle.silotwist.proofs.ScheduleCalls.{changes-at, changes-no-room, changes-short}
 use Rattle.face_reading.proofs.Seconds.{held-time}
 use mathlib.Core.Path.{_∙_, ap₂, refl}

@@ -1,7 +1,5 @@
 -- `silotwist::insert_calls::silotwist_insert_wrapped` meets its contract.
 -- Assumes nothing.
-use Rattle.wrapped.specs.Wrapped.{insertWrappedIn}
-use Rattle.silotwist.specs.ScheduleFace.{countWritten}
 use Rattle.silotwist.proofs.ScheduleCalls.{changes, changes-no-room, changes-short}
 use mathlib.Core.Path.{refl}
 use borrow.Author.Needs.{needs}

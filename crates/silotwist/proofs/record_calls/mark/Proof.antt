@@ -1,7 +1,5 @@
 -- `silotwist::record_calls::mark` meets its contract.
 -- Assumes nothing.
-use Rattle.record.specs.Record.{markIn}
-use Rattle.silotwist.specs.RecordFace.{markWritten}
 use Rattle.silotwist.proofs.RecordCalls.{mark-face, record-no-room, record-short}
 use borrow.Author.Needs.{needs}
 use Rattle.silotwist.proofs.record_calls.mark.Statement.{statement}

@@ -1,7 +1,5 @@
 -- `silotwist::record_calls::silotwist_set_clock` meets its contract.
 -- Assumes nothing.
-use Rattle.record.specs.Record.{clockIn}
-use Rattle.silotwist.specs.RecordFace.{clockWritten}
 use Rattle.silotwist.proofs.RecordCalls.{clock-face, record-no-room, record-short}
 use mathlib.Core.Path.{ap}
 use mir.Facts.{toZ-ofZ}

@@ -1,6 +1,5 @@
 -- `silotwist::store_calls::silotwist_store_add` meets its contract.
 -- Assumes nothing.
-use Rattle.store.specs.Calls.{addIn}
 use Rattle.silotwist.proofs.StoreCalls.{stores, stores-no-room}
 use borrow.Author.Needs.{needs}
 use Rattle.silotwist.proofs.store_calls.silotwist_store_add.Statement.{statement}

@@ -1,7 +1,6 @@
 -- `silotwist::store_calls::silotwist_store_part` meets its contract.
 -- Assumes nothing.
 use Rattle.silotwist.proofs.StoreCalls.{asks, asks-no-room}
-use Rattle.silotwist.specs.StoreFace.{partIn}
 use mathlib.Core.Path.{refl}
 use borrow.Author.Needs.{needs}
 use Rattle.silotwist.proofs.store_calls.silotwist_store_part.Statement.{statement}

@@ -1,6 +1,5 @@
 -- `silotwist::tick_call::silotwist_tick` meets its contract.
 -- Assumes nothing.
-use Rattle.tick.specs.Tick.{tickIn}
 use Rattle.silotwist.proofs.TickCalls.{ticks, ticks-no-room, ticks-short}
 use mathlib.Core.Path.{refl}
 use borrow.Author.Needs.{needs}

@@ -5,7 +5,6 @@ use Rattle.text.specs.Digits.{digits, held}
 use Rattle.text.proofs.Laws.{digits-end, digits-more, digits-stop}
 use Prim.Native.Nat.{_*_, _+_, _-_, ℕ}
 use borrow.Author.Needs.{needs}
-use native.Mathlib.Omega.{arith}
 use Rattle.text.proofs.numbers.decimal.Statement.{statement}
 use Rattle.text.proofs.numbers.decimal.Tie as tie
 

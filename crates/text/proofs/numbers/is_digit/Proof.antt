@@ -1,7 +1,6 @@
 -- `text::numbers::is_digit` meets its contract.
 use mathlib.Core.Path.{sym}
 use Rattle.text.proofs.Laws.{digit-below, digit-from}
-use borrow.Author.Needs.{needs}
 use native.Mathlib.Omega.{arith}
 use Rattle.text.proofs.numbers.is_digit.Statement.{statement}
 use Rattle.text.proofs.numbers.is_digit.Tie as tie
