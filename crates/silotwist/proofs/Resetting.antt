@@ -74,9 +74,9 @@ starts : {an sw rw₀ st le ro : List ℕ} (t : UnixTime) (m : Margin) {su : Set
     → Starts su r st le ro (startBy st le ro t m su r) p r′ st′ le′ ro′
     → w ≡ wordsOf p → n ≡ w .number → an′ ≡ eight (w .values) ++ drop 8 an → rw′ ≡ writtenIf (w .number) (recordSet rw₀ r′) rw₀
     → ScheduleFaces sw (word sw 2) (scheduleCall an sw rw₀ (startBy st le ro t m)) (allWritten rw₀) rw₀ st le ro an n rw′ st′ le′ ro′ an′
-starts {an} {sw} {rw₀} {st} {le} {ro} t m {su} {r} {r′} {p} {w} {rw′ = rw′} h s l x e i j k =
+starts {sw = sw} {rw₀} {st} {le} {ro} t m {su} {r} {r′} {p} {w} {rw′ = rw′} h s l x e i j k =
     faces-done (startBy st le ro t m) r h s
-    (worded-is an sw rw₀ (startBy st le ro t m) (start-bad st le ro t m) r (λ v. refl) su s l) (x .answer) e i j
+    (worded-is sw rw₀ (startBy st le ro t m) (start-bad st le ro t m) r (λ v. refl) su s l) (x .answer) e i j
     (all-written rw₀ r r′ (startBy st le ro t m su r) p w rw′ (start-ends st le ro t m su r) (x .next) (x .answer) e k)
     (x .store) (x .lens) (x .rows ∙ ap (λ b. after (startBy st le ro t m su r) ro (λ v. relaid ro b (v .entries))) (s .entries))
 

@@ -48,16 +48,16 @@ module _ (an sw rw₀ st le ro : List ℕ) (call : Setup → State → Outcome L
       → lo′ ≡ after (judging su r st le ro (call su)) lo (λ x. x .log) → lo′ ≡ after (judgedCall an sw rw₀ st le ro call) lo (λ x. x .log)
   unfolding judgedCall scheduleCall
   log-is lo su r lo′ h s l t x =
-      let f = judgedOf an sw rw₀ st le ro call in
+      let f = judgedOf st le ro call in
       x
-      ∙ ap (λ o. after o lo (λ v. v .log)) (judged-is an sw rw₀ st le ro call su r s t l ∙ sym (with-room an (worded an sw rw₀ f) h))
+      ∙ ap (λ o. after o lo (λ v. v .log)) (judged-is st le ro call sw rw₀ su r s t l ∙ sym (with-room an (worded sw rw₀ f) h))
 
 module _ {an sw rw₀ st le ro lo : List ℕ} (call : Setup → State → Outcome Logged) where
   pub ticks-no-room : length an < 8
       → TickFaces sw (word rw₀ 0) (judgedCall an sw rw₀ st le ro call) (countWritten rw₀) rw₀ st le ro lo an 2 rw₀ st le ro lo an
   unfolding judgedCall scheduleCall after
   ticks-no-room h =
-      let e = no-room an (worded an sw rw₀ (judgedOf an sw rw₀ st le ro call)) h in
+      let e = no-room an (worded sw rw₀ (judgedOf st le ro call)) h in
       record { tables = rw (left-judged an sw rw₀ st le ro call) (changes-no-room (λ su s. left (call su s)) h); log = rw e }
 
   pub ticks-short : {su : Setup} {w : Words} {n : ℕ} {an′ : List ℕ} → 8 ≤ length an → ReadsSetup sw su → length rw₀ < 6
@@ -65,8 +65,8 @@ module _ {an sw rw₀ st le ro lo : List ℕ} (call : Setup → State → Outcom
       → TickFaces sw (word rw₀ 0) (judgedCall an sw rw₀ st le ro call) (countWritten rw₀) rw₀ st le ro lo an n rw₀ st le ro lo an′
   unfolding judgedCall scheduleCall after
   ticks-short {su} h r l e i j =
-      let f = judgedOf an sw rw₀ st le ro call in
-      let q = with-room an (worded an sw rw₀ f) h ∙ short-is an sw rw₀ f su r l in
+      let f = judgedOf st le ro call in
+      let q = with-room an (worded sw rw₀ f) h ∙ short-is sw rw₀ f su r l in
       record {
         tables = rw (left-judged an sw rw₀ st le ro call) (changes-short (λ su s. left (call su s)) h r l e i j);
         log = rw q;
