@@ -9,7 +9,7 @@ use report::records;
 use text::line;
 use text::out;
 
-// What a line asks for, by its first word.
+// The first words, by their places in `one`'s list.
 const REMARK: usize = 0;
 
 const START: usize = 1;

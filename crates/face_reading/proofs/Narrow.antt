@@ -4,16 +4,18 @@ use Rattle.rules.proofs.Each.{each-at}
 use Prim.Native.Nat.{_%_, _*_, _+_, _/_, _<_, _≤_, suc, zero, ℕ}
 use Rattle.face_reading.specs.Inside.{ReadsStore, fine, narrow}
 use Rattle.face_reading.specs.Reading.{column, storeSetup, switched, wellCounted, word}
-use Rattle.rules.proofs.All.{all-at, all-each, all-end, all-of, all-stop, and-left, and-right}
-use Rattle.rules.proofs.First.{from-more}
+use Rattle.layout.proofs.Layouts.{setup-few}
 use Rattle.layout.specs.Judge.{poolOk, poolOkAt, setupOk}
 use Rattle.layout.specs.Layout.{sizeAt, slotsAt}
 use Rattle.layout.specs.Limits.{maxSlotSize, maxSlots, maxSubpools}
+use Rattle.rules.proofs.All.{all-at, all-each, all-end, all-of, all-stop, and-left, and-right}
+use Rattle.slots.specs.View.{each}
+use borrow.Author.Count.{below-more}
 use borrow.Author.Tests.{eq-eqb, eqb-false, eqb-true, le-ltb, leb-false, leb-true, lt-ltb, ltb-true}
 use lib.Dec.{eqb, leb, ltb}
-use lib.ListN.{getD, length}
+use lib.ListN.{List·getD-eq-default, getD, length}
 use mathlib.Core.Bool.{Bool, false, true}
-use mathlib.Core.List.{List, [], _∷_}
+use mathlib.Core.List.{List}
 use mathlib.Core.Path.{_∙_, _≡_, ap, refl}
 use native.Mathlib.Omega.{arith}
 use Rattle.layout.specs.declared.Setup.{Setup}
@@ -22,38 +24,25 @@ column-at : (from : ℕ) (ws : List ℕ) (k : ℕ) → k < maxSubpools → getD 
 unfolding column
 column-at from ws k l = each-at (λ j. word ws (from + 2 * j)) 0 maxSubpools 0 k l ∙ ap (λ j. word ws (from + 2 * j)) (omega arith)
 
--- behind the last word
-pub beyond : (ws : List ℕ) (i : ℕ) → length ws ≤ i → word ws i ≡ 0
-beyond [] i l = refl
-beyond (w ∷ ws) zero l = absurd (omega arith)
-beyond (w ∷ ws) (suc i) l = beyond ws i (omega arith)
-
 pool-sound : (last size slots : ℕ) → poolOk last size slots ≡ true → (size ≤ maxSlotSize) × (slots ≤ maxSlots)
 pool-sound last size slots q = let h = all-each _ q in (leb-true _ _ (h .1 .0), leb-true _ _ (h .1 .1 .1 .0))
 
 module _ (su : Setup) (ok : setupOk su ≡ true) where
-  few : su .pools ≤ maxSubpools
-  unfolding setupOk
-  few = leb-true _ _ (all-each _ ok .1 .0)
-
   pool : (k : ℕ) → k < su .pools → (sizeAt su k ≤ maxSlotSize) × (slotsAt su k ≤ maxSlots)
   unfolding setupOk
   pool k l = pool-sound _ _ _ (all-at (poolOkAt su) (su .pools) (all-each _ ok .1 .1 .0) k l)
 
 module _ (ws : List ℕ) (ok : fine ws ≡ true) where
-  counted : length ws ≡ 3 + 2 * word ws 0
+  pub fine-counted : length ws ≡ 3 + 2 * word ws 0
   unfolding fine wellCounted
-  counted = eqb-true _ _ (and-left (wellCounted ws) (setupOk (storeSetup ws)) ok)
+  fine-counted = eqb-true _ _ (and-left (wellCounted ws) (setupOk (storeSetup ws)) ok)
 
   good : setupOk (storeSetup ws) ≡ true
   unfolding fine
   good = and-right (wellCounted ws) (setupOk (storeSetup ws)) ok
 
   pub fine-few : word ws 0 ≤ maxSubpools
-  fine-few = few (storeSetup ws) good
-
-  pub fine-counted : length ws ≡ 3 + 2 * word ws 0
-  fine-counted = counted
+  fine-few = setup-few (storeSetup ws) good
 
   sizes-fit : (k : ℕ) → k < word ws 0 → word ws (4 + 2 * k) ≤ maxSlotSize
   sizes-fit k l = let m : k < maxSubpools = omega (arith, fine-few) in rw (column-at 4 ws k m) at (pool (storeSetup ws) good k l .0)
@@ -84,7 +73,7 @@ module _ (ws : List ℕ) (ok : fine ws ≡ true) where
       by i l false e = odd i l (let n = eqb-false (i % 2) 0 e in omega arith)
 
       go : (i : ℕ) → (b : Bool) → leb (length ws) (3 + i) ≡ b → word ws (3 + i) < 65536
-      go i true e = rw (beyond ws (3 + i) (leb-true _ _ e)) (omega arith)
+      go i true e = rw (List·getD-eq-default ws 0 {n = 3 + i} (leb-true _ _ e)) (omega arith)
       go i false e = by i (leb-false _ _ e) (eqb (i % 2) 0) refl
 
 -- what narrow words are, one by one
@@ -110,7 +99,7 @@ narrow-stop ws i w l e h = all-stop (λ j. ltb (word ws (3 + j)) 65536) 16 i l (
 
 pub narrow-more : (ws : List ℕ) (i w : ℕ) → ((j : ℕ) → j < i → Fits16 ws j) → w ≡ word ws (3 + i) → w < 65536
     → (j : ℕ) → j < i + 1 → Fits16 ws j
-narrow-more ws i w h e l j m = from-more (Fits16 ws) 0 i (λ k a b. h k b) (lt-ltb _ _ (rw e at l)) j (omega arith) m
+narrow-more ws i w h e l = below-more (Fits16 ws) i h (lt-ltb _ _ (rw e at l))
 
 pub narrow-end : (ws : List ℕ) (i : ℕ) → 16 ≤ i → ((j : ℕ) → j < i → Fits16 ws j) → true ≡ narrow ws
 unfolding narrow
@@ -123,6 +112,3 @@ pub reads-all : (ws : List ℕ) (n : ℕ) (sizes slots : List ℕ) (spill : Bool
 unfolding wellCounted
 reads-all ws n sizes slots spill e l a b d =
     reads-good ws _ (eq-eqb (length ws) (3 + 2 * word ws 0) (l ∙ ap (λ m. 3 + 2 * m) e)) (rw (e, a, b, d))
-
-pub differ : false ≡ true → ⊥
-differ e = let z : _≡_ {A = ℕ} 0 1 = cc in omega arith

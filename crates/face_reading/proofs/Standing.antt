@@ -11,7 +11,7 @@ use lib.Dec.{leb, ltb}
 use lib.IntN.{ℤ}
 use mathlib.Core.Bool.{Bool, _&&_, cond, false, true}
 use mathlib.Core.List.{List}
-use mathlib.Core.Path.{_≡_, refl}
+use mathlib.Core.Path.{_∙_, _≡_, ap, refl, sym}
 use native.Mathlib.Omega.{arith}
 use Rattle.record.specs.declared.Record.{Record}
 
@@ -51,3 +51,11 @@ pub stands-words : (ws : List ℕ) (n : ℕ) (s : ℤ) (a m b : ℕ) (on : Bool)
 unfolding recordFrom
 stands-words ws n s a m b on p q r t u v =
     rw (p, q, r, t, u, v) (stands (word ws 0) (signed (word ws 1)) (word ws 2) (word ws 3) (word ws 4) (switched (word ws 5)))
+
+-- what comes to the same of every record whose clock or margin is out of range comes to the same of one that stands for another
+pub stands-same : {B : Type 0} (f : Record → B) (b : B) (x r : Record) → Stands x r → ((y : Record) → timesInRange y ≡ false → f y ≡ b) → f r ≡ f x
+stands-same f b x r s h = go (timesInRange x) refl
+  where
+    go : (t : Bool) → timesInRange x ≡ t → f r ≡ f x
+    go true e = ap f (s .same e)
+    go false e = h r (s .damaged e) ∙ sym (h x e)

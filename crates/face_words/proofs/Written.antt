@@ -4,7 +4,7 @@ use Prim.Native.Nat.{_≤_, ℕ}
 use Rattle.face_words.specs.Inside.{writtenIf}
 use Rattle.lookup.specs.Refusals.{bit}
 use borrow.Author.Tests.{eq-eqb, ne-eqb}
-use lib.ListN.{drop, getD, length, set}
+use lib.ListN.{drop, length, set}
 use mathlib.Core.Bool.{Bool, false, true}
 use mathlib.Core.List.{List, [], _∷_}
 use mathlib.Core.Path.{_∙_, _≡_, ap, refl}
@@ -37,11 +37,6 @@ six (p ∷ q ∷ r ∷ []) a b d e f g l = absurd (omega arith)
 six (p ∷ q ∷ r ∷ s ∷ []) a b d e f g l = absurd (omega arith)
 six (p ∷ q ∷ r ∷ s ∷ t ∷ []) a b d e f g l = absurd (omega arith)
 six (p ∷ q ∷ r ∷ s ∷ t ∷ u ∷ ws) a b d e f g l = refl
-
--- a word written with what it was
-pub set-same : (ws : List ℕ) (n : ℕ) → 1 ≤ length ws → n ≡ getD ws 0 0 → set ws 0 n ≡ ws
-set-same [] n l e = refl
-set-same (w ∷ ws) n l e = ap (λ x. x ∷ ws) e
 
 pub six-are : (ws : List ℕ) {a b d e f g a′ b′ d′ e′ f′ g′ : ℕ} → 6 ≤ length ws → a ≡ a′ → b ≡ b′ → d ≡ d′ → e ≡ e′ → f ≡ f′ → g ≡ g′
     → set (set (set (set (set (set ws 0 a) 1 b) 2 d) 3 e) 4 f) 5 g ≡ a′ ∷ b′ ∷ d′ ∷ e′ ∷ f′ ∷ g′ ∷ drop 6 ws

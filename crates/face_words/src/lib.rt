@@ -42,7 +42,19 @@ pub fn two(number: u32, a: u64, b: u64) -> Words
 }
 
 // A number of another width as a word.
+pub fn wide8(n: u8) -> u64
+    ensures { λ r. ⌜ r ≡ n ⌝ }
+{
+    n as u64
+}
+
 pub fn wide16(n: u16) -> u64
+    ensures { λ r. ⌜ r ≡ n ⌝ }
+{
+    n as u64
+}
+
+pub fn wide32(n: u32) -> u64
     ensures { λ r. ⌜ r ≡ n ⌝ }
 {
     n as u64
@@ -63,16 +75,4 @@ pub fn word_of(secs: i64) -> u64
         return 18446744073709551615 - k;
     }
     secs as u64
-}
-
-pub fn wide32(n: u32) -> u64
-    ensures { λ r. ⌜ r ≡ n ⌝ }
-{
-    n as u64
-}
-
-pub fn wide8(n: u8) -> u64
-    ensures { λ r. ⌜ r ≡ n ⌝ }
-{
-    n as u64
 }

@@ -1,4 +1,4 @@
-// The original's answers, replayed: each line's request goes to the proved library, and all that it answers and hands out is compared with what the original did.
+// The original's answers, replayed: each line's request goes to the proved library, and its answer and all that it hands out is compared with theirs.
 mod asks;
 mod store_asks;
 mod tally;

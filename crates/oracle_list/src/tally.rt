@@ -1,6 +1,5 @@
 // How often each answer was compared, by call and document 01's number, and how many lines differ.
 use oracle_words::kinds;
-use text::line;
 use text::out;
 ghost use Prim.Native.Nat.{_<_};
 
@@ -75,10 +74,8 @@ fn table(cells: &[u64; CELLS], names: &[u8]) {
 
 // Each in a line of its own.
 fn name(names: &[u8], k: usize) {
-    let at = line::word(names, k);
-    let end = line::end(names, at, b' ');
     out::say(b"\n");
-    out::say(&names[at..end]);
+    out::word(names, k);
 }
 
 fn number(number: usize, times: u64) {

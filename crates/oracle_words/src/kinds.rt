@@ -1,4 +1,4 @@
-// What a line asks, by the place of its first word among the names that `oracle_list` has: the original's calls, then what it shows of its whole state.
+// What a line asks, by the place of its first word among the names in `oracle_list`: the original's calls, then what it shows of its whole state.
 pub const NEW: usize = 0;
 
 pub const CLOCK: usize = 1;

@@ -65,19 +65,9 @@ pub fn signed(line: &[u8], at: usize, n: u64) -> usize {
     number(line, to, b'-', std::num::wrapping_sub_u64(0, n))
 }
 
-fn glyph(d: u8) -> u8 {
-    if d < 10 {
-        return d + 48;
-    }
-    if d < 16 {
-        return d + 55;
-    }
-    b'?'
-}
-
 fn pair(line: &[u8], at: usize, b: u8) -> usize {
-    let to = byte(line, at, glyph(b / 16));
-    byte(line, to, glyph(b % 16))
+    let to = byte(line, at, out::digit(b / 16));
+    byte(line, to, out::digit(b % 16))
 }
 
 // A mark and bytes, two digits each; "-" where there are none.

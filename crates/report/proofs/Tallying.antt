@@ -21,8 +21,8 @@ pub tally-next : (log : List ℕ) (i n : ℕ) (t s w : Totals) (r : Found) → i
     → tallyFrom log i (n - i) t ≡ w → tallyFrom log (i + 1) (n - (i + 1)) s ≡ w
 tally-next log i n t s w r h g e f =
     let q : suc (n - (i + 1)) ≡ n - i = omega arith in
-    ap (tallyFrom log (i + 1) (n - (i + 1))) (e ∙ ap (λ (x : Found). tallyFound x t) g) ∙ step log i (n - (i + 1)) t
-    ∙ ap (λ (k : ℕ). tallyFrom log i k t) q ∙ f
+    ap (tallyFrom log (i + 1) (n - (i + 1))) (e ∙ ap (λ (x : Found). tallyFound x t) g)
+    ∙ step log i (n - (i + 1)) t ∙ ap (λ (k : ℕ). tallyFrom log i k t) q ∙ f
 
 pub tally-last : (log : List ℕ) (i n : ℕ) (t start : Totals) → n ≤ i → n ≡ counted log → tallyFrom log i (n - i) t ≡ tallyFrom log 0 n start
     → t ≡ tallyLog log start

@@ -2,7 +2,6 @@
 use record::ScheduleRefusal;
 use slots::StoreIdError;
 use slots::StoreRefusal;
-use text::line;
 use text::out;
 use time::Margin;
 use time::UnixTime;
@@ -12,22 +11,16 @@ fn name(no: u64) {
     out::number(b"", no);
     out::say(b" ");
     if no < 11 {
-        word(
+        out::word(
             b"- BadSetup BadBuffers StateDamaged BadTime WrongService WrongSubservice TcDataEmpty BadTimestamp TcUnreadable NestedScheduledTc",
             no as usize,
         );
     } else {
-        word(
+        out::word(
             b"DataTooLarge StoreFull ReleaseTimeInTimeMargin ScheduleFull ReversedWindow InvalidSubpool InvalidPacketIdx DataDoesNotExist BufferTooSmall LogTooSmall",
             (no - 11) as usize,
         );
     }
-}
-
-fn word(text: &[u8], k: usize) {
-    let at = line::word(text, k);
-    let end = line::end(text, at, b' ');
-    out::say(&text[at..end]);
 }
 
 fn value(n: u64) {

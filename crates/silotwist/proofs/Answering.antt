@@ -14,23 +14,23 @@ use mathlib.Core.List.{List, [], _++_}
 use mathlib.Core.Path.{_∙_, _≡_, ap}
 
 module _ {A : Type 0} (an : List ℕ) (o : Outcome A) where
-  pub short : length an < 8 → answering an o ≡ refused (no 2 [])
+  pub no-room : length an < 8 → answering an o ≡ refused (no 2 [])
   unfolding answering unless
-  short h = rw (lt-leb 8 (length an) h)
+  no-room h = rw (lt-leb 8 (length an) h)
 
-  pub roomy : 8 ≤ length an → answering an o ≡ o
+  pub with-room : 8 ≤ length an → answering an o ≡ o
   unfolding answering unless
-  roomy h = rw (le-leb 8 (length an) h)
+  with-room h = rw (le-leb 8 (length an) h)
 
-  pub answers-short : length an < 8 → Answers (answering an o) an 2 an
+  pub answers-no-room : length an < 8 → Answers (answering an o) an 2 an
   unfolding says answered unless
-  answers-short h = record { number = rw (short h); words = rw (lt-leb 8 (length an) h) }
+  answers-no-room h = record { number = rw (no-room h); words = rw (lt-leb 8 (length an) h) }
 
   pub answers : (p : Paper) (w : Words) (n : ℕ) (an′ : List ℕ) → 8 ≤ length an → p ≡ says o → w ≡ wordsOf p
       → n ≡ w .number → an′ ≡ eight (w .values) ++ drop 8 an → Answers (answering an o) an n an′
   unfolding answered unless
   answers p w n an′ h q e i j =
-      rw (roomy h)
+      rw (with-room h)
       (record {
         number = i ∙ ap (λ (x : Words). x .number) e ∙ ap (λ (x : Paper). x .number) q;
         words = j ∙ ap (λ (x : Words). eight (x .values) ++ drop 8 an) (e ∙ ap wordsOf q) ∙ ap (λ l. l ++ drop 8 an) (padded-again

@@ -1,5 +1,6 @@
 -- Laws of the C face.
 pub mod Answering
+pub mod Writing
 pub mod StoreCalls
 pub mod RecordCalls
 pub mod ScheduleCalls

@@ -16,46 +16,48 @@ use Rattle.tick.specs.Tick.{Logged}
 use mathlib.Core.List.{List}
 use mathlib.Core.Path.{_∙_, _≡_, ap, sym}
 
-pub one-answer : {A : Type 0} (o : Outcome A) (an : List ℕ) (n m : ℕ) (x y : List ℕ) → Answers o an n x → Answers o an m y → (n ≡ m) × (x ≡ y)
-one-answer o an n m x y p q = (p .number ∙ sym (q .number), p .words ∙ sym (q .words))
+pub one-answer : {A : Type 0} {o : Outcome A} {an x y : List ℕ} {n m : ℕ} → Answers o an n x → Answers o an m y → (n ≡ m) × (x ≡ y)
+one-answer p q = (p .number ∙ sym (q .number), p .words ∙ sym (q .words))
 
-pub one-store : (sw : List ℕ) (o : Outcome (List Pool)) (st le an : List ℕ) (n m : ℕ) (s s′ l l′ x y : List ℕ)
-    → StoreFaces sw o st le an n s l x → StoreFaces sw o st le an m s′ l′ y → (s ≡ s′) × (l ≡ l′)
-one-store sw o st le an n m s s′ l l′ x y p q = (p .store ∙ sym (q .store), p .lens ∙ sym (q .lens))
+pub one-store : {sw st le an s s′ l l′ x y : List ℕ} {o : Outcome (List Pool)} {n m : ℕ}
+    → StoreFaces sw o st le an n s l x → StoreFaces sw o st le an m s′ l′ y → ((n ≡ m) × (x ≡ y)) × (s ≡ s′) × (l ≡ l′)
+one-store p q = (one-answer (p .answer) (q .answer), p .store ∙ sym (q .store), p .lens ∙ sym (q .lens))
 
-pub one-buffer : (o : Outcome (List ℕ)) (buf an : List ℕ) (n m : ℕ) (b b′ x y : List ℕ)
-    → BufferFaces o buf an n b x → BufferFaces o buf an m b′ y → b ≡ b′
-one-buffer o buf an n m b b′ x y p q = p .buffer ∙ sym (q .buffer)
+pub one-buffer : {buf an b b′ x y : List ℕ} {o : Outcome (List ℕ)} {n m : ℕ}
+    → BufferFaces o buf an n b x → BufferFaces o buf an m b′ y → ((n ≡ m) × (x ≡ y)) × (b ≡ b′)
+one-buffer p q = (one-answer (p .answer) (q .answer), p .buffer ∙ sym (q .buffer))
 
-pub one-record : (o : Outcome Record) (f : Record → List ℕ) (ws an : List ℕ) (n m : ℕ) (r r′ x y : List ℕ)
-    → RecordFaces o f ws an n r x → RecordFaces o f ws an m r′ y → r ≡ r′
-one-record o f ws an n m r r′ x y p q = p .words ∙ sym (q .words)
+pub one-record : {f : Record → List ℕ} {ws an r r′ x y : List ℕ} {o : Outcome Record} {n m : ℕ}
+    → RecordFaces o f ws an n r x → RecordFaces o f ws an m r′ y → ((n ≡ m) × (x ≡ y)) × (r ≡ r′)
+one-record p q = (one-answer (p .answer) (q .answer), p .words ∙ sym (q .words))
 
-module _ (sw : List ℕ) (k : ℕ) (o : Outcome State) (f : State → List ℕ) (ws st le ro an : List ℕ) where
-  pub one-schedule : (n m : ℕ) (r r′ s s′ l l′ t t′ x y : List ℕ) → ScheduleFaces sw k o f ws st le ro an n r s l t x
-      → ScheduleFaces sw k o f ws st le ro an m r′ s′ l′ t′ y → (r ≡ r′) × (s ≡ s′) × (l ≡ l′) × (t ≡ t′)
-  one-schedule n m r r′ s s′ l l′ t t′ x y p q =
-      (p .words ∙ sym (q .words), p .store ∙ sym (q .store), p .lens ∙ sym (q .lens), p .rows ∙ sym (q .rows))
+module _ {sw : List ℕ} {k : ℕ} {o : Outcome State} {f : State → List ℕ} {ws st le ro an : List ℕ} where
+  pub one-schedule : {r r′ s s′ l l′ t t′ x y : List ℕ} {n m : ℕ} → ScheduleFaces sw k o f ws st le ro an n r s l t x
+      → ScheduleFaces sw k o f ws st le ro an m r′ s′ l′ t′ y → ((n ≡ m) × (x ≡ y)) × (r ≡ r′) × (s ≡ s′) × (l ≡ l′) × (t ≡ t′)
+  one-schedule p q = (
+    one-answer (p .answer) (q .answer),
+    p .words ∙ sym (q .words),
+    p .store ∙ sym (q .store),
+    p .lens ∙ sym (q .lens),
+    p .rows ∙ sym (q .rows),
+  )
 
   -- a number above 0 leaves record, store, lengths and rows as they were
-  pub refusal-keeps-all : (n : ℕ) (r s l t x : List ℕ) → ScheduleFaces sw k o f ws st le ro an n r s l t x → (n ≡ 0 → ⊥)
+  pub refusal-keeps-all : {r s l t x : List ℕ} {n : ℕ} → ScheduleFaces sw k o f ws st le ro an n r s l t x → (n ≡ 0 → ⊥)
       → (r ≡ ws) × (s ≡ st) × (l ≡ le) × (t ≡ ro)
-  refusal-keeps-all n r s l t x p h =
+  refusal-keeps-all p h =
       let u : says o .number ≡ 0 → ⊥ = λ e. h (p .answer .number ∙ e) in
       (p .words ∙ refusal-keeps o ws _ u, p .store ∙ refusal-keeps o st _ u, p .lens ∙ refusal-keeps o le _ u, p .rows ∙ refusal-keeps o ro _ u)
 
 -- the tick: its number, answer and tables as any scheduler's call, and its log
-module _ (sw : List ℕ) (k : ℕ) (o : Outcome Logged) (f : State → List ℕ) (ws st le ro lo an : List ℕ) where
-  pub one-tick : (n m : ℕ) (r r′ s s′ l l′ t t′ g g′ x y : List ℕ) → TickFaces sw k o f ws st le ro lo an n r s l t g x
-      → TickFaces sw k o f ws st le ro lo an m r′ s′ l′ t′ g′ y → ((n ≡ m) × (x ≡ y)) × ((r ≡ r′) × (s ≡ s′) × (l ≡ l′) × (t ≡ t′)) × (g ≡ g′)
-  one-tick n m r r′ s s′ l l′ t t′ g g′ x y p q = (
-    one-answer (left o) an n m x y (p .tables .answer) (q .tables .answer),
-    one-schedule sw k (left o) f ws st le ro an n m r r′ s s′ l l′ t t′ x y (p .tables) (q .tables),
-    p .log ∙ sym (q .log),
-  )
+module _ {sw : List ℕ} {k : ℕ} {o : Outcome Logged} {f : State → List ℕ} {ws st le ro lo an : List ℕ} where
+  pub one-tick : {r r′ s s′ l l′ t t′ g g′ x y : List ℕ} {n m : ℕ} → TickFaces sw k o f ws st le ro lo an n r s l t g x
+      → TickFaces sw k o f ws st le ro lo an m r′ s′ l′ t′ g′ y
+      → (((n ≡ m) × (x ≡ y)) × (r ≡ r′) × (s ≡ s′) × (l ≡ l′) × (t ≡ t′)) × (g ≡ g′)
+  one-tick p q = (one-schedule (p .tables) (q .tables), p .log ∙ sym (q .log))
 
-  pub refused-tick-keeps-all : (n : ℕ) (r s l t g x : List ℕ) → TickFaces sw k o f ws st le ro lo an n r s l t g x → (n ≡ 0 → ⊥)
+  pub refused-tick-keeps-all : {r s l t g x : List ℕ} {n : ℕ} → TickFaces sw k o f ws st le ro lo an n r s l t g x → (n ≡ 0 → ⊥)
       → ((r ≡ ws) × (s ≡ st) × (l ≡ le) × (t ≡ ro)) × (g ≡ lo)
-  refused-tick-keeps-all n r s l t g x p h =
+  refused-tick-keeps-all p h =
       let u : says o .number ≡ 0 → ⊥ = λ e. h (p .tables .answer .number ∙ ap (λ v. v .number) (into-says _ o) ∙ e) in
-      (refusal-keeps-all sw k (left o) f ws st le ro an n r s l t x (p .tables) h, p .log ∙ refusal-keeps o lo _ u)
+      (refusal-keeps-all (p .tables) h, p .log ∙ refusal-keeps o lo _ u)

@@ -10,7 +10,7 @@ use Rattle.slots.specs.Pools.{Pool}
 use Rattle.store.specs.Promise.{Writes}
 use Rattle.lookup.specs.Promise.{Reads}
 use Rattle.layout.specs.declared.Setup.{Setup}
-use Rattle.silotwist.proofs.Answering.{answers, answers-short, roomy, short}
+use Rattle.silotwist.proofs.Answering.{answers, answers-no-room, no-room, with-room}
 use Rattle.silotwist.specs.Face.{Answers}
 use Rattle.face_reading.specs.Inside.{ReadsStore, fine}
 use Rattle.face_words.specs.Inside.{eight, wordsOf}
@@ -55,25 +55,19 @@ module _ {A : Type 0} (sw st le : List ℕ) (call : Setup → List Pool → Outc
 
 -- calls that only answer
 module _ {A : Type 0} (an sw st le : List ℕ) (call : Setup → List Pool → Outcome A) where
-  pub asks-short : length an < 8 → Answers (storeCall an sw st le call) an 2 an
+  pub asks-no-room : length an < 8 → Answers (storeCall an sw st le call) an 2 an
   unfolding storeCall
-  asks-short h = answers-short an (worded sw st le call) h
+  asks-no-room h = answers-no-room an (worded sw st le call) h
 
-  pub asks : (su : Setup) (p : Paper) (w : Words) (n : ℕ) (an′ : List ℕ) → 8 ≤ length an → ReadsStore sw su
+  pub asks : {su : Setup} {p : Paper} {w : Words} {n : ℕ} {an′ : List ℕ} → 8 ≤ length an → ReadsStore sw su
       → p ≡ says (judging su st le (call su)) → w ≡ wordsOf p
       → n ≡ w .number → an′ ≡ eight (w .values) ++ drop 8 an → Answers (storeCall an sw st le call) an n an′
   unfolding storeCall
-  asks su p w n an′ h r q e i j =
+  asks {su} {p} {w} {n} {an′} h r q e i j =
       answers an (worded sw st le call) p w n an′ h (q ∙ ap says (read-judged sw st le call su r)) e i j
 
 -- calls that write the store
-module _ (an sw st le : List ℕ) (call : Setup → List Pool → Outcome (List Pool)) where
-  pub stores-short : length an < 8 → StoreFaces sw (storeCall an sw st le call) st le an 2 st le an
-  unfolding storeCall after
-  stores-short h =
-      let e = short an (worded sw st le call) h in
-      record { answer = asks-short an sw st le call h; store = rw e; lens = rw e }
-
+module _ (sw st le : List ℕ) (call : Setup → List Pool → Outcome (List Pool)) where
   carry : (su : Setup) (p : Paper) (st′ le′ : List ℕ) → ReadsStore sw su → Writes su st le (judging su st le (call su)) p st′ le′
       → Writes (storeSetup sw) st le (worded sw st le call) p st′ le′
   unfolding after
@@ -86,32 +80,39 @@ module _ (an sw st le : List ℕ) (call : Setup → List Pool → Outcome (List 
           let v = rw e at w in
           rw (worded-bad sw st le call f) (record { answer = v .answer; store = v .store; lens = v .lens })
 
-  pub stores : (su : Setup) (p : Paper) (w : Words) (n : ℕ) (st′ le′ an′ : List ℕ) → 8 ≤ length an → ReadsStore sw su
+module _ {an sw st le : List ℕ} (call : Setup → List Pool → Outcome (List Pool)) where
+  pub stores-no-room : length an < 8 → StoreFaces sw (storeCall an sw st le call) st le an 2 st le an
+  unfolding storeCall after
+  stores-no-room h =
+      let e = no-room an (worded sw st le call) h in
+      record { answer = asks-no-room an sw st le call h; store = rw e; lens = rw e }
+
+  pub stores : {su : Setup} {p : Paper} {w : Words} {n : ℕ} {st′ le′ an′ : List ℕ} → 8 ≤ length an → ReadsStore sw su
       → Writes su st le (judging su st le (call su)) p st′ le′ → w ≡ wordsOf p
       → n ≡ w .number → an′ ≡ eight (w .values) ++ drop 8 an → StoreFaces sw (storeCall an sw st le call) st le an n st′ le′ an′
   unfolding storeCall
-  stores su p w n st′ le′ an′ h r x e i j =
-      let k = carry su p st′ le′ r x in
-      let m = roomy an (worded sw st le call) h in
+  stores {su} {p} {st′ = st′} {le′} h r x e i j =
+      let k = carry sw st le call su p st′ le′ r x in
+      let m = with-room an (worded sw st le call) h in
       record {
-        answer = asks an sw st le call su p w n an′ h r (x .answer) e i j;
+        answer = asks an sw st le call h r (x .answer) e i j;
         store = rw m (k .store);
         lens = rw m (k .lens);
       }
 
 -- the call that writes a buffer
 module _ (an sw st le buf : List ℕ) (call : Setup → List Pool → Outcome (List ℕ)) where
-  pub buffers-short : length an < 8 → BufferFaces (storeCall an sw st le call) buf an 2 buf an
+  pub buffers-no-room : length an < 8 → BufferFaces (storeCall an sw st le call) buf an 2 buf an
   unfolding storeCall after
-  buffers-short h = let e = short an (worded sw st le call) h in record { answer = asks-short an sw st le call h; buffer = rw e }
+  buffers-no-room h = let e = no-room an (worded sw st le call) h in record { answer = asks-no-room an sw st le call h; buffer = rw e }
 
-  pub buffers : (su : Setup) (p : Paper) (w : Words) (n : ℕ) (buf′ an′ : List ℕ) → 8 ≤ length an → ReadsStore sw su
+  pub buffers : {su : Setup} {p : Paper} {w : Words} {n : ℕ} {buf′ an′ : List ℕ} → 8 ≤ length an → ReadsStore sw su
       → Reads (judging su st le (call su)) buf p buf′ → w ≡ wordsOf p
       → n ≡ w .number → an′ ≡ eight (w .values) ++ drop 8 an → BufferFaces (storeCall an sw st le call) buf an n buf′ an′
   unfolding storeCall
-  buffers su p w n buf′ an′ h r x e i j =
-      let m = roomy an (worded sw st le call) h in
+  buffers {su} h r x e i j =
+      let m = with-room an (worded sw st le call) h in
       record {
-        answer = asks an sw st le call su p w n an′ h r (x .answer) e i j;
+        answer = asks an sw st le call h r (x .answer) e i j;
         buffer = rw (m, ← read-judged sw st le call su r) (x .buffer);
       }

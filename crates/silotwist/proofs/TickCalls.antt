@@ -9,8 +9,8 @@ use Rattle.schedule.specs.State.{State}
 use Rattle.schedule.specs.declared.Setup.{Setup}
 use Rattle.tick.specs.Promise.{Ticks, left}
 use Rattle.tick.specs.Tick.{Logged}
-use Rattle.silotwist.proofs.Answering.{roomy, short}
-use Rattle.silotwist.proofs.ScheduleCalls.{changes, changes-no-answer, changes-short, judged-is, judgedOf, short-is, worded}
+use Rattle.silotwist.proofs.Answering.{no-room, with-room}
+use Rattle.silotwist.proofs.ScheduleCalls.{changes, changes-no-room, changes-short, judged-is, judgedOf, short-is, worded}
 use Rattle.silotwist.specs.Face.{answering}
 use Rattle.face_reading.specs.Inside.{ReadsSetup, Stands}
 use Rattle.face_words.specs.Inside.{eight, wordsOf}
@@ -44,44 +44,42 @@ module _ (an sw rw₀ st le ro : List ℕ) (call : Setup → State → Outcome L
   unfolding judgedCall scheduleCall answering
   left-judged = simp (left-unless, left-judging)
 
-  module _ (lo : List ℕ) where
-    pub ticks-no-answer : length an < 8
-        → TickFaces sw (word rw₀ 0) (judgedCall an sw rw₀ st le ro call) (countWritten rw₀) rw₀ st le ro lo an 2 rw₀ st le ro lo an
-    unfolding judgedCall scheduleCall after
-    ticks-no-answer h =
-        let e = short an (worded an sw rw₀ (judgedOf an sw rw₀ st le ro call)) h in
-        record { tables = rw left-judged (changes-no-answer an sw rw₀ st le ro (λ su s. left (call su s)) (countWritten rw₀) h); log = rw e }
+  log-is : (lo : List ℕ) (su : Setup) (r : Record) (lo′ : List ℕ) → 8 ≤ length an → ReadsSetup sw su → 6 ≤ length rw₀ → Stands (recordFrom rw₀) r
+      → lo′ ≡ after (judging su r st le ro (call su)) lo (λ x. x .log) → lo′ ≡ after (judgedCall an sw rw₀ st le ro call) lo (λ x. x .log)
+  unfolding judgedCall scheduleCall
+  log-is lo su r lo′ h s l t x =
+      let f = judgedOf st le ro call in
+      x
+      ∙ ap (λ o. after o lo (λ v. v .log)) (judged-is st le ro call sw rw₀ su r s t l ∙ sym (with-room an (worded sw rw₀ f) h))
 
-    pub ticks-short : (su : Setup) (w : Words) (n : ℕ) (an′ : List ℕ) → 8 ≤ length an → ReadsSetup sw su → length rw₀ < 6
-        → w ≡ wordsOf (shortPaper su) → n ≡ w .number → an′ ≡ eight (w .values) ++ drop 8 an
-        → TickFaces sw (word rw₀ 0) (judgedCall an sw rw₀ st le ro call) (countWritten rw₀) rw₀ st le ro lo an n rw₀ st le ro lo an′
-    unfolding judgedCall scheduleCall after
-    ticks-short su w n an′ h r l e i j =
-        let f = judgedOf an sw rw₀ st le ro call in
-        let q = roomy an (worded an sw rw₀ f) h ∙ short-is an sw rw₀ f su r l in
-        record {
-          tables = rw left-judged (changes-short an sw rw₀ st le ro (λ su s. left (call su s)) (countWritten rw₀) su w n an′ h r l e i j);
-          log = rw q;
-        }
+module _ {an sw rw₀ st le ro lo : List ℕ} (call : Setup → State → Outcome Logged) where
+  pub ticks-no-room : length an < 8
+      → TickFaces sw (word rw₀ 0) (judgedCall an sw rw₀ st le ro call) (countWritten rw₀) rw₀ st le ro lo an 2 rw₀ st le ro lo an
+  unfolding judgedCall scheduleCall after
+  ticks-no-room h =
+      let e = no-room an (worded sw rw₀ (judgedOf st le ro call)) h in
+      record { tables = rw (left-judged an sw rw₀ st le ro call) (changes-no-room (λ su s. left (call su s)) h); log = rw e }
 
-    log-is : (su : Setup) (r : Record) (lo′ : List ℕ) → 8 ≤ length an → ReadsSetup sw su → 6 ≤ length rw₀ → Stands (recordFrom rw₀) r
-        → lo′ ≡ after (judging su r st le ro (call su)) lo (λ x. x .log) → lo′ ≡ after (judgedCall an sw rw₀ st le ro call) lo (λ x. x .log)
-    unfolding judgedCall scheduleCall
-    log-is su r lo′ h s l t x =
-        let f = judgedOf an sw rw₀ st le ro call in
-        x
-        ∙ ap (λ o. after o lo (λ v. v .log)) (judged-is an sw rw₀ st le ro call su r s t l ∙ sym (roomy an (worded an sw rw₀ f) h))
+  pub ticks-short : {su : Setup} {w : Words} {n : ℕ} {an′ : List ℕ} → 8 ≤ length an → ReadsSetup sw su → length rw₀ < 6
+      → w ≡ wordsOf (shortPaper su) → n ≡ w .number → an′ ≡ eight (w .values) ++ drop 8 an
+      → TickFaces sw (word rw₀ 0) (judgedCall an sw rw₀ st le ro call) (countWritten rw₀) rw₀ st le ro lo an n rw₀ st le ro lo an′
+  unfolding judgedCall scheduleCall after
+  ticks-short {su} h r l e i j =
+      let f = judgedOf st le ro call in
+      let q = with-room an (worded sw rw₀ f) h ∙ short-is sw rw₀ f su r l in
+      record {
+        tables = rw (left-judged an sw rw₀ st le ro call) (changes-short (λ su s. left (call su s)) h r l e i j);
+        log = rw q;
+      }
 
-    pub ticks : (su : Setup) (r r′ : Record) (p : Paper) (w : Words) (n : ℕ) (rw′ st′ le′ ro′ lo′ an′ : List ℕ) → 8 ≤ length an
-        → ReadsSetup sw su → 6 ≤ length rw₀ → Stands (recordFrom rw₀) r
-        → Ticks su r st le ro lo (judging su r st le ro (call su)) p r′ st′ le′ ro′ lo′
-        → w ≡ wordsOf p → n ≡ w .number → an′ ≡ eight (w .values) ++ drop 8 an → rw′ ≡ set rw₀ 0 (r′ .count)
-        → TickFaces sw (word rw₀ 0) (judgedCall an sw rw₀ st le ro call) (countWritten rw₀) rw₀ st le ro lo an n rw′ st′ le′ ro′ lo′ an′
-    ticks su r r′ p w n rw′ st′ le′ ro′ lo′ an′ h s l t x e i j a =
-        let y = rw (left-judging su r st le ro (call su)) at (x .tables) in
-        record {
-          tables =
-              rw left-judged
-              (changes an sw rw₀ st le ro (λ su s. left (call su s)) su r r′ p w n rw′ st′ le′ ro′ an′ h s l t y e i j a);
-          log = log-is su r lo′ h s l t (x .log);
-        }
+  pub ticks : {su : Setup} {r r′ : Record} {p : Paper} {w : Words} {n : ℕ} {rw′ st′ le′ ro′ lo′ an′ : List ℕ} → 8 ≤ length an
+      → ReadsSetup sw su → 6 ≤ length rw₀ → Stands (recordFrom rw₀) r
+      → Ticks su r st le ro lo (judging su r st le ro (call su)) p r′ st′ le′ ro′ lo′
+      → w ≡ wordsOf p → n ≡ w .number → an′ ≡ eight (w .values) ++ drop 8 an → rw′ ≡ set rw₀ 0 (r′ .count)
+      → TickFaces sw (word rw₀ 0) (judgedCall an sw rw₀ st le ro call) (countWritten rw₀) rw₀ st le ro lo an n rw′ st′ le′ ro′ lo′ an′
+  ticks {su} {r} {r′} {lo′ = lo′} h s l t x e i j a =
+      let y = rw (left-judging su r st le ro (call su)) at (x .tables) in
+      record {
+        tables = rw (left-judged an sw rw₀ st le ro call) (changes (λ su s. left (call su s)) h s l t y e i j a);
+        log = log-is an sw rw₀ st le ro call lo su r lo′ h s l t (x .log);
+      }

@@ -1,5 +1,4 @@
--- The C face (include/silotwist.h): what a reader must believe. Read it in this order, beside the header, after face_reading's
--- Reading and face_words' Padding.
+-- The C face (include/silotwist.h): what a reader must believe, in this order, after face_reading's Reading and face_words' Padding.
 pub mod Face
 pub mod StoreFace
 pub mod RecordFace

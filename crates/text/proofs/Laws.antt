@@ -1,13 +1,13 @@
 -- Laws of digits: a case each of their definitions, and one step of reading a number.
-use Prim.Native.Nat.{_*_, _+_, _-_, _<_, _≤_, suc, ℕ}
+use Prim.Native.Nat.{_*_, _+_, _-_, _<_, _≤_, ℕ}
 use Rattle.text.specs.Digits.{digits, held, isDigit, value}
 use borrow.Author.Tests.{le-ltb, lt-ltb}
 use lib.Dec.{ltb}
 use lib.ListN.{drop, drop-of-length-le, getD, length}
 use lib.Seq.{drop-cons}
 use mathlib.Core.Bool.{false, true}
-use mathlib.Core.List.{List, [], _∷_}
-use mathlib.Core.Path.{_∙_, _≡_, ap, refl, sym}
+use mathlib.Core.List.{List, []}
+use mathlib.Core.Path.{_≡_}
 use native.Mathlib.Numerals.{add-one}
 use native.Mathlib.Omega.{arith}
 
@@ -56,30 +56,16 @@ value-above b h =
     let g : 65 ≤ b = omega arith in
     simp (le-ltb _ _ e, le-ltb _ _ f, le-ltb _ _ g, le-ltb _ _ h)
 
-digits-go : (v b : ℕ) (bs : List ℕ) → isDigit b ≡ true → digits v (b ∷ bs) ≡ digits (held (v * 10 + (b - 48))) bs
+-- a number's digits from place i on: one more, none next, and none left
+pub digits-more : (s : List ℕ) (v w i : ℕ) → i < length s → isDigit (getD s i 0) ≡ true → w ≡ held (v * 10 + (getD s i 0 - 48))
+    → digits w (drop (i + 1) s) ≡ digits v (drop i s)
 unfolding digits
-digits-go v b bs e = simp e
+digits-more s v w i h d e = rw (add-one, e, drop-cons s i 0 h, d)
 
-digits-stop : (v b : ℕ) (bs : List ℕ) → isDigit b ≡ false → digits v (b ∷ bs) ≡ v
+pub digits-stop : (s : List ℕ) (v i : ℕ) → i < length s → isDigit (getD s i 0) ≡ false → digits v (drop i s) ≡ v
 unfolding digits
-digits-stop v b bs e = simp e
+digits-stop s v i h d = rw (drop-cons s i 0 h, d)
 
-digits-none : (v : ℕ) → digits v [] ≡ v
+pub digits-end : (s : List ℕ) (v i : ℕ) → length s ≤ i → digits v (drop i s) ≡ v
 unfolding digits
-digits-none v = refl
-
--- one digit more
-pub more :
-    (s : List ℕ) (v w i : ℕ) → i < length s → isDigit (getD s i 0) ≡ true → w ≡ held (v * 10 + (getD s i 0 - 48)) →
-    digits w (drop (i + 1) s) ≡ digits v (drop i s)
-more s v w i h d e =
-    rw add-one
-    (ap (λ (n : ℕ). digits n (drop (suc i) s)) e ∙ sym (ap (digits v) (drop-cons s i 0 h) ∙ digits-go v (getD s i 0) (drop (suc i) s) d))
-
--- no digit follows
-pub stop : (s : List ℕ) (v i : ℕ) → i < length s → isDigit (getD s i 0) ≡ false → digits v (drop i s) ≡ v
-stop s v i h d = ap (digits v) (drop-cons s i 0 h) ∙ digits-stop v _ _ d
-
--- nor anything
-pub last : (s : List ℕ) (v i : ℕ) → length s ≤ i → digits v (drop i s) ≡ v
-last s v i h = ap (digits v) (drop-of-length-le s h) ∙ digits-none v
+digits-end s v i h = rw (drop-of-length-le s h)

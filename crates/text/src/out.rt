@@ -1,4 +1,5 @@
 // Text, numbers, times and bytes on standard output.
+use crate::line;
 use time::Margin;
 use time::UnixTime;
 ghost use mathlib.Core.Path.{_≡_};
@@ -13,6 +14,13 @@ pub fn say(text: &[u8]) {
 pub fn number(text: &[u8], n: u64) {
     say(text);
     io::print_decimal(libc::STDOUT_FILENO, n);
+}
+
+// Word k of a text, counted from 0.
+pub fn word(text: &[u8], k: usize) {
+    let at = line::word(text, k);
+    let end = line::end(text, at, b' ');
+    say(&text[at..end]);
 }
 
 // A sign where there is one, and the size.
@@ -94,8 +102,8 @@ pub fn byte(b: u8) {
     say(&two);
 }
 
-// Read back, it is the digit.
-fn digit(d: u8) -> u8
+// A digit below 16; read back, it is the same.
+pub fn digit(d: u8) -> u8
     requires { ⌜ d < 16 ⌝ }
     ensures { λ r. ⌜ value r ≡ d ⌝ }
 {

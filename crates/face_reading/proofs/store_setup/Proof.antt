@@ -1,8 +1,9 @@
 -- `face_reading::store_setup` meets its contract.
 -- Assumes nothing.
-use Rattle.face_reading.proofs.Narrow.{differ, fine-counted, fine-few, fine-narrow, reads-all, reads-bad}
+use Rattle.face_reading.proofs.Narrow.{fine-counted, fine-few, fine-narrow, reads-all, reads-bad}
 use Rattle.face_reading.specs.Reading.{switched}
 use borrow.Author.Tests.{not-false, not-true}
+use mathlib.Core.Bool.{false≢true}
 use mathlib.Core.Path.{_∙_, ap, sym}
 use native.Mathlib.Omega.{arith}
 use borrow.Author.Needs.{needs}
@@ -16,7 +17,7 @@ returns-2 : tie.Need-returns-2
 returns-2 c = reads-bad _ _ (λ f. omega (arith, fine-counted _ f)) (c .bad-setup2 .ensures)
 
 returns-3 : tie.Need-returns-3
-returns-3 c = reads-bad _ _ (λ f. differ (sym (not-true _ (c .before .if3 .taken)) ∙ c .before .before .is-narrow .ensures ∙ fine-narrow _ f))
+returns-3 c = reads-bad _ _ (λ f. false≢true (sym (not-true _ (c .before .if3 .taken)) ∙ c .before .before .is-narrow .ensures ∙ fine-narrow _ f))
     (c .bad-setup3 .ensures)
 
 slots-requires : tie.Need-slots-requires

@@ -16,15 +16,15 @@ returns c = simp (lt-ltb _ _ (c .if1 .taken))
 returns-2 : tie.Need-returns-2
 unfolding counted
 returns-2 c =
-    let h : length (c .before .before .before .before .args .log .now) < 8 + 4 * countOf
-    (c .before .before .before .before .args .log .now) = omega (arith, c .before .read .ensures .same) in
+    let log = c .before .before .before .before .args .log .now in
+    let h : length log < 8 + 4 * countOf log = omega (arith, c .before .read .ensures .same) in
     simp (le-ltb _ _ (c .before .before .if1 .left), lt-ltb _ _ h)
 
 returns-3 : tie.Need-returns-3
 unfolding counted
 returns-3 c =
-    let h : 8 + 4 * countOf (c .before .before .before .before .args .log .now) ≤ length
-    (c .before .before .before .before .args .log .now) = omega (arith, c .before .read .ensures .same) in
+    let log = c .before .before .before .before .args .log .now in
+    let h : 8 + 4 * countOf log ≤ length log = omega (arith, c .before .read .ensures .same) in
     simp (le-ltb _ _ (c .before .before .if1 .left), le-ltb _ _ h) (c .before .read .ensures .same)
 
 pub count-spec : {M : Type 1} → statement M

@@ -11,23 +11,26 @@ returns c = not-found _ _ (omega arith)
 
 mul-read : tie.Need-mul-read
 mul-read c =
-    let s = some-counted (c .before .before .before .args .log .now) (c .before .before .before .args .i) (omega arith) in
+    let a = c .before .before .before .args in
+    let s = some-counted (a .log .now) (a .i) (omega arith) in
     omega (arith, s .room)
 
 add-read : tie.Need-add-read
 add-read c =
-    let s = some-counted (c .before .before .before .args .log .now) (c .before .before .before .args .i) (omega arith) in
+    let a = c .before .before .before .args in
+    let s = some-counted (a .log .now) (a .i) (omega arith) in
     omega (arith, s .room)
 
 read-requires : tie.Need-read-requires
 read-requires c κs =
-    let s = some-counted (c .before .before .before .args .log .now) (c .before .before .before .args .i) (omega arith) in
+    let a = c .before .before .before .args in
+    let s = some-counted (a .log .now) (a .i) (omega arith) in
     (omega (arith, s .room), omega arith)
 
 end-of-requires : tie.Need-end-of-requires
 end-of-requires c κs =
-    let s = some-counted (c .before .before .before .before .args .log .now) (c .before .before .before .before .args .i)
-    (omega arith) in
+    let a = c .before .before .before .before .args in
+    let s = some-counted (a .log .now) (a .i) (omega arith) in
     (omega arith, c .before .before .count .ensures ∙ s .same, omega (arith, s .room))
 
 between-requires : tie.Need-between-requires

@@ -20,8 +20,7 @@ loop-holds c = (omega arith, tally-first _ _ _)
 loop-again : tie.Need-loop-again Inv-loop μ-loop
 loop-again c = (
   omega arith,
-  tally-next _ _ _ _ _ _ _ (omega arith) (c .before .record-at .ensures) (c .one .ensures)
-      (c .before .before .before .loop .inv .1),
+  tally-next _ _ _ _ _ _ _ (omega arith) (c .before .record-at .ensures) (c .one .ensures) (c .before .before .before .loop .inv .1),
 )
 
 returns : tie.Need-returns Inv-loop μ-loop

@@ -2,8 +2,7 @@
 -- Assumes nothing.
 use Rattle.deletions.specs.Deleting.{deleteWindowIn}
 use Rattle.face_reading.specs.Reading.{windowFrom}
-use Rattle.silotwist.specs.ScheduleFace.{countWritten}
-use Rattle.silotwist.proofs.ScheduleCalls.{changes-at, changes-no-answer, changes-short}
+use Rattle.silotwist.proofs.ScheduleCalls.{changes-at, changes-no-room, changes-short}
 use Rattle.face_reading.proofs.Seconds.{held-time}
 use mathlib.Core.Path.{_∙_, ap₂, refl}
 use borrow.Author.Needs.{needs}
@@ -11,29 +10,21 @@ use Rattle.silotwist.proofs.delete_calls.silotwist_delete_window.Statem
 use Rattle.silotwist.proofs.delete_calls.silotwist_delete_window.Tie as tie
 
 returns : tie.Need-returns
-returns c =
-    let a = c .before .before .before .before .before .before .before .args in
-    changes-no-answer (a .answer .now) (a .setup .now) (a .«record» .now) (a .store .now) (a .lens .now) (a .rows .now) (λ su. deleteWindowIn
-    (windowFrom (a .has-from) (record { secs = a .from-secs; nanos = a .from-nanos }) (a .has-to)
-    (record { secs = a .to-secs; nanos = a .to-nanos }))) (countWritten (a .«record» .now)) (c .if1 .taken)
+returns c = changes-no-room _ (c .if1 .taken)
 
 short-requires : tie.Need-short-requires
 short-requires c κs = c .before .before .before .if1 .left
 
 returns-2 : tie.Need-returns-2
 returns-2 c =
-    let a = c .before .before .before .before .before .before .before .before .before .before .before .before .before .args in
-    changes-short (a .answer .now) (a .setup .now) (a .«record» .now) (a .store .now) (a .lens .now) (a .rows .now)
-    (λ su. deleteWindowIn
-    (windowFrom (a .has-from) (record { secs = a .from-secs; nanos = a .from-nanos }) (a .has-to)
-    (record { secs = a .to-secs; nanos = a .to-nanos }))) (countWritten (a .«record» .now)) _ _ _ _
-    (c .before .before .before .before .before .before .if1 .left) (c .before .before .before .before .before .setup .ensures)
-    (c .before .before .before .before .if2 .taken) refl (c .before .before .short .ensures .0) (c .before .before .short .ensures .1)
+    let p = c .before .before in
+    changes-short _ (p .before .before .before .before .if1 .left) (p .before .before .before .setup .ensures) (p .before .before .if2 .taken) refl
+    (p .short .ensures .0) (p .short .ensures .1)
 
 with-count-requires : tie.Need-with-count-requires
 with-count-requires c κs =
-    let p = c .before .before .before .before .before .before .before .before .before .before .before .before .before .before .before
-    .before .before .before in
+    let q = c .before .before .before .before .before .before .before .before .before in
+    let p = q .before .before .before .before .before .before .before .before .before in
     (p .if2 .left, p .before .before .if1 .left)
 
 returns-3 : tie.Need-returns-3
@@ -52,10 +43,7 @@ returns-3 c =
     let a = p11 .args in
     let from = held-time (a .from-secs) (a .from-nanos) _ (p11 .fits .from-secs) (p6 .time .ensures) in
     let to = held-time (a .to-secs) (a .to-nanos) _ (p11 .fits .to-secs) (p5 .time2 .ensures) in
-    changes-at (a .answer .now) (a .setup .now) (a .«record» .now) (a .store .now) (a .lens .now) (a .rows .now) (λ v su. deleteWindowIn v) _
-    (windowFrom (a .has-from) (record { secs = a .from-secs; nanos = a .from-nanos }) (a .has-to)
-    (record { secs = a .to-secs; nanos = a .to-nanos }))
-    (p4 .window .ensures ∙ ap₂ (λ x y. windowFrom (a .has-from) x (a .has-to) y) from to) _ _ _ _ _ _ _ _ _ _ _
+    changes-at (λ v su. deleteWindowIn v) (p4 .window .ensures ∙ ap₂ (λ x y. windowFrom (a .has-from) x (a .has-to) y) from to)
     (p10 .if1 .left) (p9 .setup .ensures) (p8 .if2 .left) (p7 .«record» .ensures)
     (p3 .delete-by-time-filter .ensures)
     (p2 .cleared .ensures) (p1 .with-count .ensures .number)

@@ -1,8 +1,7 @@
 -- `silotwist::insert_calls::silotwist_insert_unwrapped` meets its contract.
 -- Assumes nothing.
 use Rattle.insertions.specs.Inserting.{insertUnwrappedIn}
-use Rattle.silotwist.specs.ScheduleFace.{countWritten}
-use Rattle.silotwist.proofs.ScheduleCalls.{changes-at, changes-no-answer, changes-short}
+use Rattle.silotwist.proofs.ScheduleCalls.{changes-at, changes-no-room, changes-short}
 use Rattle.face_reading.proofs.Seconds.{held-time}
 use mathlib.Core.Path.{refl}
 use borrow.Author.Needs.{needs}
@@ -10,23 +9,16 @@ use Rattle.silotwist.proofs.insert_calls.silotwist_insert_unwrapped.Sta
 use Rattle.silotwist.proofs.insert_calls.silotwist_insert_unwrapped.Tie as tie
 
 returns : tie.Need-returns
-returns c =
-    let a = c .before .before .before .before .before .before .before .before .args in
-    changes-no-answer (a .answer .now) (a .setup .now) (a .«record» .now) (a .store .now) (a .lens .now) (a .rows .now)
-    (λ su. insertUnwrappedIn su (record { secs = a .secs; nanos = a .nanos }) (a .packet .now)) (countWritten (a .«record» .now))
-    (c .if1 .taken)
+returns c = changes-no-room _ (c .if1 .taken)
 
 short-requires : tie.Need-short-requires
 short-requires c κs = c .before .before .before .if1 .left
 
 returns-2 : tie.Need-returns-2
 returns-2 c =
-    let a = c .before .before .before .before .before .before .before .before .before .before .before .before .before .before .args in
-    changes-short (a .answer .now) (a .setup .now) (a .«record» .now) (a .store .now) (a .lens .now) (a .rows .now)
-    (λ su. insertUnwrappedIn su (record { secs = a .secs; nanos = a .nanos }) (a .packet .now))
-    (countWritten (a .«record» .now)) _ _ _ _ (c .before .before .before .before .before .before .if1 .left)
-    (c .before .before .before .before .before .setup .ensures)
-    (c .before .before .before .before .if2 .taken) refl (c .before .before .short .ensures .0) (c .before .before .short .ensures .1)
+    let p = c .before .before in
+    changes-short _ (p .before .before .before .before .if1 .left) (p .before .before .before .setup .ensures) (p .before .before .if2 .taken) refl
+    (p .short .ensures .0) (p .short .ensures .1)
 
 with-count-requires : tie.Need-with-count-requires
 with-count-requires c κs =
@@ -45,9 +37,7 @@ returns-3 c =
     let p8 = p7 .before in
     let p9 = p8 .before .before .before .before .before .before .before .before in
     let a = p9 .args in
-    changes-at (a .answer .now) (a .setup .now) (a .«record» .now) (a .store .now) (a .lens .now) (a .rows .now) (λ t su. insertUnwrappedIn su t
-    (a .packet .now)) _ (record { secs = a .secs; nanos = a .nanos }) (held-time _ _ _
-    (p9 .fits .secs) (p4 .time .ensures)) _ _ _ _ _ _ _ _ _ _ _
+    changes-at (λ t su. insertUnwrappedIn su t (a .packet .now)) (held-time _ _ _ (p9 .fits .secs) (p4 .time .ensures))
     (p8 .if1 .left) (p7 .setup .ensures) (p6 .if2 .left) (p5 .«record» .ensures)
     (p3 .insert-unwrapped-tc .ensures)
     (p2 .inserted .ensures) (p1 .with-count .ensures .number)

@@ -1,29 +1,22 @@
 -- `silotwist::insert_calls::silotwist_insert_wrapped` meets its contract.
 -- Assumes nothing.
-use Rattle.wrapped.specs.Wrapped.{insertWrappedIn}
-use Rattle.silotwist.specs.ScheduleFace.{countWritten}
-use Rattle.silotwist.proofs.ScheduleCalls.{changes, changes-no-answer, changes-short}
+use Rattle.silotwist.proofs.ScheduleCalls.{changes, changes-no-room, changes-short}
 use mathlib.Core.Path.{refl}
 use borrow.Author.Needs.{needs}
 use Rattle.silotwist.proofs.insert_calls.silotwist_insert_wrapped.Statement.{statement}
 use Rattle.silotwist.proofs.insert_calls.silotwist_insert_wrapped.Tie as tie
 
 returns : tie.Need-returns
-returns c =
-    let a = c .before .before .before .before .before .before .before .before .args in
-    changes-no-answer (a .answer .now) (a .setup .now) (a .«record» .now) (a .store .now) (a .lens .now) (a .rows .now) (λ su. insertWrappedIn su
-    (a .packet .now)) (countWritten (a .«record» .now)) (c .if1 .taken)
+returns c = changes-no-room _ (c .if1 .taken)
 
 short-requires : tie.Need-short-requires
 short-requires c κs = c .before .before .before .if1 .left
 
 returns-2 : tie.Need-returns-2
 returns-2 c =
-    let a = c .before .before .before .before .before .before .before .before .before .before .before .before .before .before .args in
-    changes-short (a .answer .now) (a .setup .now) (a .«record» .now) (a .store .now) (a .lens .now) (a .rows .now)
-    (λ su. insertWrappedIn su (a .packet .now)) (countWritten (a .«record» .now)) _ _ _ _
-    (c .before .before .before .before .before .before .if1 .left) (c .before .before .before .before .before .setup .ensures)
-    (c .before .before .before .before .if2 .taken) refl (c .before .before .short .ensures .0) (c .before .before .short .ensures .1)
+    let p = c .before .before in
+    changes-short _ (p .before .before .before .before .if1 .left) (p .before .before .before .setup .ensures) (p .before .before .if2 .taken) refl
+    (p .short .ensures .0) (p .short .ensures .1)
 
 with-count-requires : tie.Need-with-count-requires
 with-count-requires c κs =
@@ -39,11 +32,7 @@ returns-3 c =
     let p5 = p4 .before .before in
     let p6 = p5 .before in
     let p7 = p6 .before in
-    let p8 = p7 .before .before .before .before .before .before .before .before in
-    let a = p8 .args in
-    changes (a .answer .now) (a .setup .now) (a .«record» .now) (a .store .now) (a .lens .now) (a .rows .now) (λ su. insertWrappedIn su
-    (a .packet .now)) _ _ _ _ _ _ _ _ _ _ _
-    (p7 .if1 .left) (p6 .setup .ensures) (p5 .if2 .left) (p4 .«record» .ensures)
+    changes _ (p7 .if1 .left) (p6 .setup .ensures) (p5 .if2 .left) (p4 .«record» .ensures)
     (p3 .insert-wrapped-tc .ensures)
     (p2 .inserted .ensures) (p1 .with-count .ensures .number)
     (p1 .with-count .ensures .words) (p1 .with-count .ensures .written)

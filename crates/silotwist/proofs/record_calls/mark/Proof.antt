@@ -1,22 +1,15 @@
 -- `silotwist::record_calls::mark` meets its contract.
 -- Assumes nothing.
-use Rattle.record.specs.Record.{markIn}
-use Rattle.silotwist.specs.RecordFace.{markWritten}
-use Rattle.silotwist.proofs.RecordCalls.{mark-face, record-no-answer, record-short}
+use Rattle.silotwist.proofs.RecordCalls.{mark-face, record-no-room, record-short}
 use borrow.Author.Needs.{needs}
 use Rattle.silotwist.proofs.record_calls.mark.Statement.{statement}
 use Rattle.silotwist.proofs.record_calls.mark.Tie as tie
 
 returns : tie.Need-returns
-returns c = record-no-answer (c .before .before .before .args .answer .now) (c .before .before .before .args .«record» .now) (markIn
-    (c .before .before .before .args .on)) (markWritten (c .before .before .before .args .«record» .now)) (c .if1 .taken)
+returns c = record-no-room _ (c .if1 .taken)
 
 returns-2 : tie.Need-returns-2
-returns-2 c = record-short (c .before .before .before .before .before .before .before .before .before .args .answer .now)
-    (c .before .before .before .before .before .before .before .before .before .args .«record» .now) (markIn
-    (c .before .before .before .before .before .before .before .before .before .args .on)) (markWritten
-    (c .before .before .before .before .before .before .before .before .before .args .«record» .now)) _ _ _
-    (c .before .before .before .before .before .before .if1 .left) (c .before .before .before .before .before .if2 .taken)
+returns-2 c = record-short _ (c .before .before .before .before .before .before .if1 .left) (c .before .before .before .before .before .if2 .taken)
     (c .before .before .before .none .ensures) (c .before .before .put .ensures .0) (c .before .before .put .ensures .1)
 
 with-mark-requires : tie.Need-with-mark-requires
@@ -32,13 +25,8 @@ returns-3 c =
     let p4 = p3 .before in
     let p5 = p4 .before .before in
     let p6 = p5 .before in
-    let p7 = p6 .before .before .before in
-    mark-face (p7 .args .answer .now) (p7 .args .«record» .now) _ (p4 .«record» .ensures) _ _ (p2 .done .ensures) _ _ _
-    (p6 .if1 .left)
-    (p5 .if2 .left)
-    (p1 .with-mark .ensures .number) (p1 .with-mark .ensures .words) _
-    (p3 .marked .ensures)
-    (p1 .with-mark .ensures .written)
+    mark-face (p6 .if1 .left) (p5 .if2 .left) (p4 .«record» .ensures) (p2 .done .ensures) (p1 .with-mark .ensures .number)
+    (p1 .with-mark .ensures .words) _ (p3 .marked .ensures) (p1 .with-mark .ensures .written)
 
 pub mark-spec : {M : Type 1} → statement M
 mark-spec =

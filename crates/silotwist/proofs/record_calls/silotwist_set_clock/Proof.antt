@@ -1,8 +1,6 @@
 -- `silotwist::record_calls::silotwist_set_clock` meets its contract.
 -- Assumes nothing.
-use Rattle.record.specs.Record.{clockIn}
-use Rattle.silotwist.specs.RecordFace.{clockWritten}
-use Rattle.silotwist.proofs.RecordCalls.{clock-face, record-no-answer, record-short}
+use Rattle.silotwist.proofs.RecordCalls.{clock-face, record-no-room, record-short}
 use mathlib.Core.Path.{ap}
 use mir.Facts.{toZ-ofZ}
 use mir.Syntax.{w64}
@@ -13,9 +11,7 @@ use Rattle.silotwist.proofs.record_calls.silotwist_set_clock.Statement.
 use Rattle.silotwist.proofs.record_calls.silotwist_set_clock.Tie as tie
 
 returns : tie.Need-returns
-returns c = record-no-answer (c .before .before .before .args .answer .now) (c .before .before .before .args .«record» .now) (clockIn
-    (record { secs = c .before .before .before .args .secs; nanos = c .before .before .before .args .nanos })) (clockWritten
-    (c .before .before .before .args .«record» .now)) (c .if1 .taken)
+returns c = record-no-room _ (c .if1 .taken)
 
 returns-2 : tie.Need-returns-2
 returns-2 c =
@@ -23,11 +19,7 @@ returns-2 c =
     let p2 = p1 .before in
     let p3 = p2 .before .before in
     let p4 = p3 .before in
-    let p5 = p4 .before .before .before in
-    record-short (p5 .args .answer .now)
-    (p5 .args .«record» .now) (clockIn
-    (record { secs = p5 .args .secs; nanos = p5 .args .nanos })) (clockWritten (p5 .args .«record» .now)) _ _ _
-    (p4 .if1 .left) (p3 .if2 .taken) (p2 .none .ensures) (p1 .put .ensures .0) (p1 .put .ensures .1)
+    record-short _ (p4 .if1 .left) (p3 .if2 .taken) (p2 .none .ensures) (p1 .put .ensures .0) (p1 .put .ensures .1)
 
 with-clock-requires : tie.Need-with-clock-requires
 with-clock-requires c κs =
@@ -44,10 +36,8 @@ returns-3 c =
     let p6 = p5 .before in
     let p7 = p6 .before .before .before in
     let f : SFits w64 (p7 .args .secs) = search needs in
-    clock-face (p7 .args .answer .now) (p7 .args .«record» .now) _ (p4 .«record» .ensures) _ _ (p2 .done .ensures) _ _ _
-    (p6 .if1 .left)
-    (p5 .if2 .left)
-    (p1 .with-clock .ensures .number) (p1 .with-clock .ensures .words) _ _
+    clock-face (p6 .if1 .left) (p5 .if2 .left) (p4 .«record» .ensures) (p2 .done .ensures) (p1 .with-clock .ensures .number)
+    (p1 .with-clock .ensures .words)
     (ap (λ (z : ℤ). record { secs = z; nanos = p7 .args .nanos }) (toZ-ofZ f)) (p3 .clocked .ensures) (p1 .with-clock .ensures .written)
 
 pub silotwist-set-clock-spec : {M : Type 1} → statement M

@@ -1,37 +1,29 @@
 -- `silotwist::schedule_calls::silotwist_count` meets its contract.
 -- Assumes nothing.
-use Rattle.schedule.specs.Counting.{countIn}
-use Rattle.silotwist.proofs.ScheduleCalls.{looks, looks-no-answer, looks-short}
+use Rattle.silotwist.proofs.ScheduleCalls.{looks, looks-no-room, looks-short}
 use mathlib.Core.Path.{refl}
 use borrow.Author.Needs.{needs}
 use Rattle.silotwist.proofs.schedule_calls.silotwist_count.Statement.{statement}
 use Rattle.silotwist.proofs.schedule_calls.silotwist_count.Tie as tie
 
 returns : tie.Need-returns
-returns c =
-    let a = c .before .before .before .before .before .before .before .args in
-    looks-no-answer (a .answer .now) (a .setup .now) (a .«record» .now) (a .store .now) (a .lens .now) (a .rows .now) (λ su. countIn)
-    (c .if1 .taken)
+returns c = looks-no-room _ _ _ _ _ _ _ (c .if1 .taken)
 
 short-requires : tie.Need-short-requires
 short-requires c κs = c .before .before .before .if1 .left
 
 returns-2 : tie.Need-returns-2
 returns-2 c =
-    let a = c .before .before .before .before .before .before .before .before .before .before .before .before .before .args in
-    looks-short (a .answer .now) (a .setup .now) (a .«record» .now) (a .store .now) (a .lens .now) (a .rows .now) (λ su. countIn)
-    _ _ _ _ (c .before .before .before .before .before .before .if1 .left)
-    (c .before .before .before .before .before .setup .ensures)
-    (c .before .before .before .before .if2 .taken) refl (c .before .before .short .ensures .0) (c .before .before .short .ensures .1)
+    let p = c .before .before in
+    looks-short _ _ _ _ _ _ _ (p .before .before .before .before .if1 .left) (p .before .before .before .setup .ensures)
+    (p .before .before .if2 .taken) refl (p .short .ensures .0) (p .short .ensures .1)
 
 put-requires : tie.Need-put-requires
 put-requires c κs = c .before .before .before .before .before .before .if1 .left
 
 returns-3 : tie.Need-returns-3
 returns-3 c =
-    let a = c .before .before .before .before .before .before .before .before .before .before .before .before .before .before .before .before .args in
-    looks (a .answer .now) (a .setup .now) (a .«record» .now) (a .store .now) (a .lens .now) (a .rows .now) (λ su. countIn) _ _ _ _ _ _
-    (c .before .before .before .before .before .before .before .before .before .if1 .left)
+    looks _ _ _ _ _ _ _ (c .before .before .before .before .before .before .before .before .before .if1 .left)
     (c .before .before .before .before .before .before .before .before .setup .ensures)
     (c .before .before .before .before .before .before .before .if2 .left)
     (c .before .before .before .before .before .before .«record» .ensures)

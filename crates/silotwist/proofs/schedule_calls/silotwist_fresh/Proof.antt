@@ -1,6 +1,7 @@
 -- `silotwist::schedule_calls::silotwist_fresh` meets its contract.
 -- Assumes nothing.
-use Rattle.silotwist.proofs.Resetting.{starts-at, starts-no-answer, starts-short}
+use Rattle.silotwist.proofs.Resetting.{starts-at}
+use Rattle.silotwist.proofs.ScheduleCalls.{faces-no-room, faces-short}
 use Rattle.face_reading.proofs.Seconds.{held-time}
 use mathlib.Core.Path.{refl}
 use borrow.Author.Needs.{needs}
@@ -8,21 +9,16 @@ use Rattle.silotwist.proofs.schedule_calls.silotwist_fresh.Statement.{s
 use Rattle.silotwist.proofs.schedule_calls.silotwist_fresh.Tie as tie
 
 returns : tie.Need-returns
-returns c =
-    let a = c .before .before .before .before .before .before .before .args in
-    starts-no-answer (a .answer .now) (a .setup .now) (a .«record» .now) (a .store .now) (a .lens .now) (a .rows .now)
-    (record { secs = a .clock-secs; nanos = a .clock-nanos }) (record { secs = a .margin-secs; nanos = a .margin-nanos }) (c .if1 .taken)
+returns c = faces-no-room _ (c .if1 .taken)
 
 short-requires : tie.Need-short-requires
 short-requires c κs = c .before .before .before .if1 .left
 
 returns-2 : tie.Need-returns-2
 returns-2 c =
-    let a = c .before .before .before .before .before .before .before .before .before .before .before .before .before .args in
-    starts-short (a .answer .now) (a .setup .now) (a .«record» .now) (a .store .now) (a .lens .now) (a .rows .now)
-    (record { secs = a .clock-secs; nanos = a .clock-nanos }) (record { secs = a .margin-secs; nanos = a .margin-nanos }) _ _ _
-    _ (c .before .before .before .before .before .before .if1 .left) (c .before .before .before .before .before .setup .ensures)
-    (c .before .before .before .before .if2 .taken) refl (c .before .before .short .ensures .0) (c .before .before .short .ensures .1)
+    let p = c .before .before in
+    faces-short _ (p .before .before .before .before .if1 .left) (p .before .before .before .setup .ensures) (p .before .before .if2 .taken) refl
+    (p .short .ensures .0) (p .short .ensures .1)
 
 with-all-requires : tie.Need-with-all-requires
 with-all-requires c κs =
@@ -40,11 +36,7 @@ returns-3 c =
     let p7 = p6 .before in
     let p8 = p7 .before in
     let p9 = p8 .before .before .before .before .before .before .before in
-    let a = p9 .args in
-    starts-at (a .answer .now) (a .setup .now) (a .«record» .now) (a .store .now) (a .lens .now) (a .rows .now) _
-    (record { secs = a .clock-secs; nanos = a .clock-nanos }) (record { secs = a .margin-secs; nanos = a .margin-nanos }) (held-time _ _ _
-    (p9 .fits .clock-secs) (p4 .time .ensures)) _ _ _ _ _ _ _ _ _ _ _
-    (p8 .if1 .left) (p7 .setup .ensures) (p6 .if2 .left)
+    starts-at _ (held-time _ _ _ (p9 .fits .clock-secs) (p4 .time .ensures)) (p8 .if1 .left) (p7 .setup .ensures) (p6 .if2 .left)
     (p3 .fresh-start .ensures)
     (p2 .done .ensures) (p1 .with-all .ensures .number)
     (p1 .with-all .ensures .words) (p1 .with-all .ensures .written)

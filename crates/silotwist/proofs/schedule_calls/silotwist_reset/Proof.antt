@@ -1,25 +1,23 @@
 -- `silotwist::schedule_calls::silotwist_reset` meets its contract.
 -- Assumes nothing.
-use Rattle.silotwist.proofs.Resetting.{resets, resets-no-answer, resets-short}
+use Rattle.silotwist.proofs.Resetting.{resets}
+use Rattle.silotwist.proofs.ScheduleCalls.{changes-no-room, changes-short}
 use mathlib.Core.Path.{refl}
 use borrow.Author.Needs.{needs}
 use Rattle.silotwist.proofs.schedule_calls.silotwist_reset.Statement.{statement}
 use Rattle.silotwist.proofs.schedule_calls.silotwist_reset.Tie as tie
 
 returns : tie.Need-returns
-returns c =
-    let a = c .before .before .before .before .before .before .before .args in
-    resets-no-answer (a .answer .now) (a .setup .now) (a .«record» .now) (a .store .now) (a .lens .now) (a .rows .now) (c .if1 .taken)
+returns c = changes-no-room _ (c .if1 .taken)
 
 short-requires : tie.Need-short-requires
 short-requires c κs = c .before .before .before .if1 .left
 
 returns-2 : tie.Need-returns-2
 returns-2 c =
-    let a = c .before .before .before .before .before .before .before .before .before .before .before .before .before .args in
-    resets-short (a .answer .now) (a .setup .now) (a .«record» .now) (a .store .now) (a .lens .now) (a .rows .now) _ _ _ _
-    (c .before .before .before .before .before .before .if1 .left) (c .before .before .before .before .before .setup .ensures)
-    (c .before .before .before .before .if2 .taken) refl (c .before .before .short .ensures .0) (c .before .before .short .ensures .1)
+    let p = c .before .before in
+    changes-short _ (p .before .before .before .before .if1 .left) (p .before .before .before .setup .ensures) (p .before .before .if2 .taken) refl
+    (p .short .ensures .0) (p .short .ensures .1)
 
 with-reset-requires : tie.Need-with-reset-requires
 with-reset-requires c κs =
@@ -35,9 +33,7 @@ returns-3 c =
     let p5 = p4 .before .before in
     let p6 = p5 .before in
     let p7 = p6 .before in
-    let p8 = p7 .before .before .before .before .before .before .before in
-    let a = p8 .args in
-    resets (a .answer .now) (a .setup .now) (a .«record» .now) (a .store .now) (a .lens .now) (a .rows .now) _ _ _ _ _ _ _ _ _ _ _
+    resets
     (p7 .if1 .left) (p6 .setup .ensures) (p5 .if2 .left) (p4 .«record» .ensures)
     (p3 .reset .ensures)
     (p2 .cleared .ensures)

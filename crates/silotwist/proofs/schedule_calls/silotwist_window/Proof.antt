@@ -2,7 +2,7 @@
 -- Assumes nothing.
 use Rattle.windows.specs.Windowing.{retrieveIn}
 use Rattle.face_reading.specs.Reading.{windowFrom}
-use Rattle.silotwist.proofs.ScheduleCalls.{looks-at, looks-no-answer, looks-short}
+use Rattle.silotwist.proofs.ScheduleCalls.{looks-at, looks-no-room, looks-short}
 use Rattle.face_reading.proofs.Seconds.{held-time}
 use mathlib.Core.Path.{_∙_, ap₂, refl}
 use borrow.Author.Needs.{needs}
@@ -10,24 +10,16 @@ use Rattle.silotwist.proofs.schedule_calls.silotwist_window.Statement.{
 use Rattle.silotwist.proofs.schedule_calls.silotwist_window.Tie as tie
 
 returns : tie.Need-returns
-returns c =
-    let a = c .before .before .before .before .before .before .before .args in
-    looks-no-answer (a .answer .now) (a .setup .now) (a .«record» .now) (a .store .now) (a .lens .now) (a .rows .now) (λ su. retrieveIn
-    (windowFrom (a .has-from) (record { secs = a .from-secs; nanos = a .from-nanos }) (a .has-to)
-    (record { secs = a .to-secs; nanos = a .to-nanos }))) (c .if1 .taken)
+returns c = looks-no-room _ _ _ _ _ _ _ (c .if1 .taken)
 
 short-requires : tie.Need-short-requires
 short-requires c κs = c .before .before .before .if1 .left
 
 returns-2 : tie.Need-returns-2
 returns-2 c =
-    let a = c .before .before .before .before .before .before .before .before .before .before .before .before .before .args in
-    looks-short (a .answer .now) (a .setup .now) (a .«record» .now) (a .store .now) (a .lens .now) (a .rows .now)
-    (λ su. retrieveIn
-    (windowFrom (a .has-from) (record { secs = a .from-secs; nanos = a .from-nanos }) (a .has-to)
-    (record { secs = a .to-secs; nanos = a .to-nanos }))) _ _ _ _
-    (c .before .before .before .before .before .before .if1 .left) (c .before .before .before .before .before .setup .ensures)
-    (c .before .before .before .before .if2 .taken) refl (c .before .before .short .ensures .0) (c .before .before .short .ensures .1)
+    let p = c .before .before in
+    looks-short _ _ _ _ _ _ _ (p .before .before .before .before .if1 .left) (p .before .before .before .setup .ensures)
+    (p .before .before .if2 .taken) refl (p .short .ensures .0) (p .short .ensures .1)
 
 put-requires : tie.Need-put-requires
 put-requires c κs = c .before .before .before .before .before .before .before .before .before .if1 .left
@@ -46,15 +38,10 @@ returns-3 c =
     let p10 = p9 .before in
     let p11 = p10 .before .before .before .before .before .before .before in
     let a = p11 .args in
-    looks-at (a .answer .now) (a .setup .now) (a .«record» .now) (a .store .now) (a .lens .now) (a .rows .now) (λ v su. retrieveIn v) _
-    (windowFrom (a .has-from) (record { secs = a .from-secs; nanos = a .from-nanos }) (a .has-to)
-    (record { secs = a .to-secs; nanos = a .to-nanos })) (p4 .window .ensures ∙ ap₂
-    (λ x y. windowFrom (a .has-from) x (a .has-to) y) (held-time _ _ _
-    (p11 .fits .from-secs) (p6 .time .ensures)) (held-time _ _ _ (p11 .fits .to-secs) (p5 .time2 .ensures))) _ _ _ _ _ _
-    (p10 .if1 .left)
-    (p9 .setup .ensures)
-    (p8 .if2 .left)
-    (p7 .«record» .ensures)
+    let from = held-time (a .from-secs) (a .from-nanos) _ (p11 .fits .from-secs) (p6 .time .ensures) in
+    let to = held-time (a .to-secs) (a .to-nanos) _ (p11 .fits .to-secs) (p5 .time2 .ensures) in
+    looks-at _ _ _ _ _ _ (λ v su. retrieveIn v) (p4 .window .ensures ∙ ap₂ (λ x y. windowFrom (a .has-from) x (a .has-to) y) from to)
+    (p10 .if1 .left) (p9 .setup .ensures) (p8 .if2 .left) (p7 .«record» .ensures)
     (p3 .retrieve-by-time-filter .ensures)
     (p2 .retrieved .ensures) (p1 .put .ensures .0) (p1 .put .ensures .1)
 

@@ -1,14 +1,12 @@
 -- `silotwist::store_calls::silotwist_store_delete` meets its contract.
 -- Assumes nothing.
-use Rattle.store.specs.Calls.{deleteIn}
-use Rattle.silotwist.proofs.StoreCalls.{stores, stores-short}
+use Rattle.silotwist.proofs.StoreCalls.{stores, stores-no-room}
 use borrow.Author.Needs.{needs}
 use Rattle.silotwist.proofs.store_calls.silotwist_store_delete.Statement.{statement}
 use Rattle.silotwist.proofs.store_calls.silotwist_store_delete.Tie as tie
 
 returns : tie.Need-returns
-returns c = let a = c .before .before .before .before .before .args in stores-short (a .answer .now) (a .setup .now) (a .store .now)
-    (a .lens .now) (λ su ps. deleteIn ps (a .address)) (c .if1 .taken)
+returns c = stores-no-room _ (c .if1 .taken)
 
 returns-2 : tie.Need-returns-2
 returns-2 c =
@@ -17,10 +15,7 @@ returns-2 c =
     let p3 = p2 .before .before .before .before .before in
     let p4 = p3 .before .before .before in
     let p5 = p4 .before in
-    let p6 = p5 .before .before .before .before .before in
-    let a = p6 .args in
-    stores (a .answer .now) (a .setup .now) (a .store .now) (a .lens .now) (λ su ps. deleteIn ps (a .address)) _ _ _ _ _ _ _
-    (p5 .if1 .left)
+    stores _ (p5 .if1 .left)
     (p4 .store-setup .ensures)
     (p3 .delete .ensures)
     (p2 .deleted .ensures)

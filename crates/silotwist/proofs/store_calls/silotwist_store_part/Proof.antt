@@ -1,21 +1,17 @@
 -- `silotwist::store_calls::silotwist_store_part` meets its contract.
 -- Assumes nothing.
-use Rattle.silotwist.proofs.StoreCalls.{asks, asks-short}
-use Rattle.silotwist.specs.StoreFace.{partIn}
+use Rattle.silotwist.proofs.StoreCalls.{asks, asks-no-room}
 use mathlib.Core.Path.{refl}
 use borrow.Author.Needs.{needs}
 use Rattle.silotwist.proofs.store_calls.silotwist_store_part.Statement.{statement}
 use Rattle.silotwist.proofs.store_calls.silotwist_store_part.Tie as tie
 
 returns : tie.Need-returns
-returns c = let a = c .before .before .before .before .before .args in asks-short (a .answer .now) (a .setup .now) (a .store .now) (a .lens .now)
-    (partIn (a .address)) (c .if1 .taken)
+returns c = asks-no-room _ _ _ _ _ (c .if1 .taken)
 
 returns-2 : tie.Need-returns-2
 returns-2 c =
-    let a = c .before .before .before .before .before .before .before .before .before .before .before .args in
-    asks (a .answer .now) (a .setup .now) (a .store .now) (a .lens .now) (partIn (a .address)) _ _ _ _ _
-    (c .before .before .before .before .before .before .if1 .left)
+    asks _ _ _ _ _ (c .before .before .before .before .before .before .if1 .left)
     (c .before .before .before .before .before .store-setup .ensures) refl (c .before .before .before .before .part .ensures)
     (c .before .before .put .ensures .0) (c .before .before .put .ensures .1)
 

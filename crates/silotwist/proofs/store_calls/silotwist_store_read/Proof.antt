@@ -1,20 +1,16 @@
 -- `silotwist::store_calls::silotwist_store_read` meets its contract.
 -- Assumes nothing.
-use Rattle.lookup.specs.Calls.{readIn}
-use Rattle.silotwist.proofs.StoreCalls.{buffers, buffers-short}
+use Rattle.silotwist.proofs.StoreCalls.{buffers, buffers-no-room}
 use borrow.Author.Needs.{needs}
 use Rattle.silotwist.proofs.store_calls.silotwist_store_read.Statement.{statement}
 use Rattle.silotwist.proofs.store_calls.silotwist_store_read.Tie as tie
 
 returns : tie.Need-returns
-returns c = let a = c .before .before .before .before .before .before .args in buffers-short (a .answer .now) (a .setup .now) (a .store .now)
-    (a .lens .now) (a .buffer .now) (λ su ps. readIn ps (a .address) (a .buffer .now)) (c .if1 .taken)
+returns c = buffers-no-room _ _ _ _ _ _ (c .if1 .taken)
 
 returns-2 : tie.Need-returns-2
 returns-2 c =
-    let a = c .before .before .before .before .before .before .before .before .before .before .before .before .before .before .before .before .args in
-    buffers (a .answer .now) (a .setup .now) (a .store .now) (a .lens .now) (a .buffer .now) (λ su ps. readIn ps (a .address)
-    (a .buffer .now)) _ _ _ _ _ _ (c .before .before .before .before .before .before .before .before .before .before .if1 .left)
+    buffers _ _ _ _ _ _ (c .before .before .before .before .before .before .before .before .before .before .if1 .left)
     (c .before .before .before .before .before .before .before .before .before .store-setup .ensures)
     (c .before .before .before .before .before .before .before .read .ensures) (c .before .before .before .before .length .ensures)
     (c .before .before .put .ensures .0) (c .before .before .put .ensures .1)

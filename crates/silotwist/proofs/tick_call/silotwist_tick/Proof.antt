@@ -1,33 +1,27 @@
 -- `silotwist::tick_call::silotwist_tick` meets its contract.
 -- Assumes nothing.
-use Rattle.tick.specs.Tick.{tickIn}
-use Rattle.silotwist.proofs.TickCalls.{ticks, ticks-no-answer, ticks-short}
+use Rattle.silotwist.proofs.TickCalls.{ticks, ticks-no-room, ticks-short}
 use mathlib.Core.Path.{refl}
 use borrow.Author.Needs.{needs}
 use Rattle.silotwist.proofs.tick_call.silotwist_tick.Statement.{statement}
 use Rattle.silotwist.proofs.tick_call.silotwist_tick.Tie as tie
 
 returns : tie.Need-returns
-returns c =
-    let a = c .before .before .before .before .before .before .before .before .args in
-    ticks-no-answer (a .answer .now) (a .setup .now) (a .«record» .now) (a .store .now) (a .lens .now) (a .rows .now) (λ su. tickIn
-    (a .limit) (a .delete-packets) (a .log .now)) (a .log .now) (c .if1 .taken)
+returns c = ticks-no-room _ (c .if1 .taken)
 
 short-requires : tie.Need-short-requires
 short-requires c κs = c .before .before .before .if1 .left
 
 returns-2 : tie.Need-returns-2
 returns-2 c =
-    let a = c .before .before .before .before .before .before .before .before .before .before .before .before .before .before .args in
-    ticks-short (a .answer .now) (a .setup .now) (a .«record» .now) (a .store .now) (a .lens .now) (a .rows .now)
-    (λ su. tickIn (a .limit) (a .delete-packets) (a .log .now)) (a .log .now) _ _ _ _
-    (c .before .before .before .before .before .before .if1 .left) (c .before .before .before .before .before .setup .ensures)
-    (c .before .before .before .before .if2 .taken) refl (c .before .before .short .ensures .0) (c .before .before .short .ensures .1)
+    let p = c .before .before in
+    ticks-short _ (p .before .before .before .before .if1 .left) (p .before .before .before .setup .ensures) (p .before .before .if2 .taken) refl
+    (p .short .ensures .0) (p .short .ensures .1)
 
 with-count-requires : tie.Need-with-count-requires
 with-count-requires c κs =
-    let p = c .before .before .before .before .before .before .before .before .before .before .before .before .before .before .before
-    .before .before .before in
+    let q = c .before .before .before .before .before .before .before .before .before in
+    let p = q .before .before .before .before .before .before .before .before .before in
     (p .if2 .left, p .before .before .if1 .left)
 
 returns-3 : tie.Need-returns-3
@@ -39,11 +33,7 @@ returns-3 c =
     let p5 = p4 .before .before in
     let p6 = p5 .before in
     let p7 = p6 .before in
-    let p8 = p7 .before .before .before .before .before .before .before .before in
-    let a = p8 .args in
-    ticks (a .answer .now) (a .setup .now) (a .«record» .now) (a .store .now) (a .lens .now) (a .rows .now) (λ su. tickIn
-    (a .limit) (a .delete-packets) (a .log .now)) (a .log .now) _ _ _ _ _ _ _ _ _ _ _ _
-    (p7 .if1 .left) (p6 .setup .ensures) (p5 .if2 .left) (p4 .«record» .ensures)
+    ticks _ (p7 .if1 .left) (p6 .setup .ensures) (p5 .if2 .left) (p4 .«record» .ensures)
     (p3 .tick .ensures)
     (p2 .ticked .ensures) (p1 .with-count .ensures .number)
     (p1 .with-count .ensures .words) (p1 .with-count .ensures .written)

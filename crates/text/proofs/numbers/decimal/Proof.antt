@@ -2,7 +2,7 @@
 use mathlib.Core.Path.{_∙_, _≡_, ap, refl, sym}
 use lib.ListN.{drop, length}
 use Rattle.text.specs.Digits.{digits, held}
-use Rattle.text.proofs.Laws.{last, more, stop}
+use Rattle.text.proofs.Laws.{digits-end, digits-more, digits-stop}
 use Prim.Native.Nat.{_*_, _+_, _-_, ℕ}
 use borrow.Author.Needs.{needs}
 use Rattle.text.proofs.numbers.decimal.Statement.{statement}
@@ -18,8 +18,9 @@ loop-holds : tie.Need-loop-holds Inv-loop μ-loop
 loop-holds c = refl
 
 loop-again : tie.Need-loop-again Inv-loop μ-loop
-loop-again c = let l = c .before .before .before .before .before .before .before .loop in
-    more _ (l .v) _ (l .i) (c .before .before .before .before .before .before .loop-test .taken)
+loop-again c =
+    let l = c .before .before .before .before .before .before .before .loop in
+    digits-more _ (l .v) _ (l .i) (c .before .before .before .before .before .before .loop-test .taken)
     (sym (c .before .before .before .before .is-digit .ensures) ∙ c .before .before .before .if1 .taken)
     (c .with-digit .ensures ∙ ap (λ (d : ℕ). held (l .v * 10 + d)) (c .before .over-zero .ensures))
     ∙ l .inv
@@ -27,11 +28,10 @@ loop-again c = let l = c .before .before .before .before .before .before .before
 returns : tie.Need-returns Inv-loop μ-loop
 returns c =
     let l = c .before .before .before .before .loop in
-    sym (stop _ (l .v) (l .i) (c .before .before .before .loop-test .taken) (sym (c .before .is-digit .ensures) ∙ c .if1 .left))
-    ∙ l .inv
+    sym (digits-stop _ (l .v) (l .i) (c .before .before .before .loop-test .taken) (sym (c .before .is-digit .ensures) ∙ c .if1 .left)) ∙ l .inv
 
 returns-2 : tie.Need-returns-2 Inv-loop μ-loop
-returns-2 c = let l = c .before .loop in sym (last _ (l .v) (l .i) (c .loop-test .left)) ∙ l .inv
+returns-2 c = let l = c .before .loop in sym (digits-end _ (l .v) (l .i) (c .loop-test .left)) ∙ l .inv
 
 pub decimal-spec : {M : Type 1} → statement M
 decimal-spec =

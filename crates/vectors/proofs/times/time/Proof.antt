@@ -7,8 +7,7 @@ use Rattle.vectors.proofs.times.time.Tie as tie
 
 against-requires : tie.Need-against-requires
 against-requires c κs =
-    time-judged _
-    (sym (c .before .before .before .before .before .in-range .ensures) ∙ c .before .before .before .before .if1 .taken)
+    time-judged _ (sym (c .before .before .before .before .before .in-range .ensures) ∙ c .before .before .before .before .if1 .taken)
 
 there-and-back-requires : tie.Need-there-and-back-requires
 there-and-back-requires c κs = time-judged _ (sym (c .before .before .before .before .in-range .ensures) ∙ c .before .before .before .if1 .taken)
