@@ -75,7 +75,9 @@ module _ (su : Setup) (t : Lent) (x : Answer) (u : Lent) (s : Fine su t) where
       → StoreLooks su t x u call → Follows su q t x u
   unfolding looked stateOf
   store-looks q call e c =
-      unchanged q (c .lent) (rw e (c .answer ∙ ap says (store-judging-fine (su .store) (t .store) (t .lens) call (facts s .store)))) (rw e (c .buffer))
+      unchanged q (c .lent)
+      (rw e (c .answer ∙ ap says (store-judging-fine (su .store) (t .store) (t .lens) call (facts s .store))))
+      (rw e (c .buffer))
       (rw e)
 
   reads : (a : ℕ) (buf : List ℕ) → ReadsInto su t x u a buf → Follows su (read a buf) t x u

@@ -1,15 +1,14 @@
 -- Words of a good setup fit the fields that hold them; and the setup that was read.
 -- Assumes nothing.
 use Rattle.rules.proofs.Each.{each-at}
-use Prim.Native.Nat.{_%_, _*_, _+_, _/_, _<_, _≤_, suc, zero, ℕ}
+use Prim.Native.Nat.{_%_, _*_, _+_, _/_, _<_, _≤_, ℕ}
 use Rattle.face_reading.specs.Inside.{ReadsStore, fine, narrow}
 use Rattle.face_reading.specs.Reading.{column, storeSetup, switched, wellCounted, word}
+use Rattle.layout.proofs.Bounds.{setup-pool}
 use Rattle.layout.proofs.Layouts.{setup-few}
-use Rattle.layout.specs.Judge.{poolOk, poolOkAt, setupOk}
-use Rattle.layout.specs.Layout.{sizeAt, slotsAt}
+use Rattle.layout.specs.Judge.{setupOk}
 use Rattle.layout.specs.Limits.{maxSlotSize, maxSlots, maxSubpools}
-use Rattle.rules.proofs.All.{all-at, all-each, all-end, all-of, all-stop, and-left, and-right}
-use Rattle.slots.specs.View.{each}
+use Rattle.rules.proofs.All.{all-at, all-end, all-of, all-stop, and-left, and-right}
 use borrow.Author.Count.{below-more}
 use borrow.Author.Tests.{eq-eqb, eqb-false, eqb-true, le-ltb, leb-false, leb-true, lt-ltb, ltb-true}
 use lib.Dec.{eqb, leb, ltb}
@@ -24,14 +23,6 @@ column-at : (from : ℕ) (ws : List ℕ) (k : ℕ) → k < maxSubpools → getD 
 unfolding column
 column-at from ws k l = each-at (λ j. word ws (from + 2 * j)) 0 maxSubpools 0 k l ∙ ap (λ j. word ws (from + 2 * j)) (omega arith)
 
-pool-sound : (last size slots : ℕ) → poolOk last size slots ≡ true → (size ≤ maxSlotSize) × (slots ≤ maxSlots)
-pool-sound last size slots q = let h = all-each _ q in (leb-true _ _ (h .1 .0), leb-true _ _ (h .1 .1 .1 .0))
-
-module _ (su : Setup) (ok : setupOk su ≡ true) where
-  pool : (k : ℕ) → k < su .pools → (sizeAt su k ≤ maxSlotSize) × (slotsAt su k ≤ maxSlots)
-  unfolding setupOk
-  pool k l = pool-sound _ _ _ (all-at (poolOkAt su) (su .pools) (all-each _ ok .1 .1 .0) k l)
-
 module _ (ws : List ℕ) (ok : fine ws ≡ true) where
   pub fine-counted : length ws ≡ 3 + 2 * word ws 0
   unfolding fine wellCounted
@@ -45,10 +36,10 @@ module _ (ws : List ℕ) (ok : fine ws ≡ true) where
   fine-few = setup-few (storeSetup ws) good
 
   sizes-fit : (k : ℕ) → k < word ws 0 → word ws (4 + 2 * k) ≤ maxSlotSize
-  sizes-fit k l = let m : k < maxSubpools = omega (arith, fine-few) in rw (column-at 4 ws k m) at (pool (storeSetup ws) good k l .0)
+  sizes-fit k l = let m : k < maxSubpools = omega (arith, fine-few) in rw (column-at 4 ws k m) at (setup-pool (storeSetup ws) good k l .1)
 
   slots-fit : (k : ℕ) → k < word ws 0 → word ws (3 + 2 * k) ≤ maxSlots
-  slots-fit k l = let m : k < maxSubpools = omega (arith, fine-few) in rw (column-at 3 ws k m) at (pool (storeSetup ws) good k l .1)
+  slots-fit k l = let m : k < maxSubpools = omega (arith, fine-few) in rw (column-at 3 ws k m) at (setup-pool (storeSetup ws) good k l .3)
 
   pub fine-narrow : narrow ws ≡ true
   unfolding narrow

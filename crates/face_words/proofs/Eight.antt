@@ -1,7 +1,7 @@
 -- The 8 words of an answer: values that were padded, and the loop that copies them.
 -- Assumes nothing.
 use Prim.Native.Nat.{_+_, _<_, _≤_, ℕ}
-use Rattle.face_reading.proofs.Narrow.{each-at}
+use Rattle.rules.proofs.Each.{each-at}
 use Rattle.face_reading.specs.Reading.{word}
 use Rattle.face_words.specs.Inside.{eight}
 use Rattle.face_words.specs.Padding.{padded}

@@ -27,8 +27,3 @@ pub each-same : {A : Type 0} (f : ℕ → A) (x : A) (n i : ℕ) → ((t : ℕ) 
 unfolding each
 each-same f x zero i h = refl
 each-same f x (suc n) i h = ap₂ _∷_ (h i (omega arith)) (each-same f x n (suc i) (λ t l. h t (omega arith)))
-
-pub each-next : {A : Type 0} (f : ℕ → A) (n i : ℕ) → each f (suc i) n ≡ each (λ k. f (suc k)) i n
-unfolding each
-each-next f zero i = refl
-each-next f (suc n) i = ap (λ l. f (suc i) ∷ l) (each-next f n (suc i))

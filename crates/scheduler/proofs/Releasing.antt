@@ -1,6 +1,6 @@
 -- The laws of the scheduler for the tick: it keeps a fitting state so, does what the step of its request says, keeps everything where
 -- it refuses, and has one outcome only.
-use Prim.Native.Nat.{_-_, ℕ}
+use Prim.Native.Nat.{ℕ}
 use Rattle.record.specs.declared.Record.{Record}
 use Rattle.rules.proofs.Order.{into-after, into-says, refusal-keeps}
 use Rattle.rules.specs.Papers.{Outcome, Paper, into, refused, says}

@@ -15,7 +15,7 @@ use Rattle.scheduler.proofs.Standing.{outcome-state, sound-fits}
 use Rattle.scheduler.proofs.StaysSound.{call-stays, record-stays, step-stays, store-stays}
 use Rattle.scheduler.specs.Fits.{Fits, Gives, OfBytes}
 use Rattle.scheduler.specs.Laws.{StepsAs}
-use Rattle.scheduler.specs.Steps.{Request, add, carried, count, delete, disable, enable, modify, ofPools, ofRecord, setClock, step, withRecord}
+use Rattle.scheduler.specs.Steps.{Request, add, carried, delete, disable, enable, modify, ofPools, ofRecord, setClock, step, withRecord}
 use Rattle.store.specs.Calls.{addIn, deleteIn}
 use Rattle.lookup.specs.Calls.{ifHeld, ifNamed, judging as storeJudging, packetIn}
 use Rattle.layout.specs.Judge.{Sound as StoreSound}

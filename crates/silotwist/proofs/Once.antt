@@ -11,7 +11,6 @@ use Rattle.silotwist.specs.RecordFace.{RecordFaces}
 use Rattle.silotwist.specs.ScheduleFace.{ScheduleFaces}
 use Rattle.silotwist.specs.StoreFace.{BufferFaces, StoreFaces}
 use Rattle.silotwist.specs.TickFace.{TickFaces}
-use Rattle.tick.specs.Promise.{left}
 use Rattle.tick.specs.Tick.{Logged}
 use mathlib.Core.List.{List}
 use mathlib.Core.Path.{_∙_, _≡_, ap, sym}

@@ -2,7 +2,7 @@
 -- Assumes nothing.
 use Prim.Native.Nat.{_+_, _≤_, min, suc, zero, ℕ}
 use Rattle.log.proofs.Sizes.{taken, total-parts}
-use Rattle.log.specs.Log.{records, total}
+use Rattle.log.specs.Log.{total}
 use Rattle.measure.specs.Fitting.{fitting}
 use Rattle.rules.specs.Tests.{unless}
 use Rattle.slots.specs.Pools.{Pool, find}
