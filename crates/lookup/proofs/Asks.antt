@@ -5,7 +5,7 @@ use Rattle.address.specs.Address.{addressOf, poolOf, slotOf}
 use Rattle.layout.specs.Judge.{Sound}
 use Rattle.layout.specs.Limits.{maxSlotSize, storeFree}
 use Rattle.lookup.proofs.Judging.{judging-fine}
-use Rattle.lookup.proofs.Packets.{Packet, spot-refused}
+use Rattle.lookup.proofs.Packets.{PacketAt, spot-refused}
 use Rattle.lookup.specs.Calls.{hasIn, ifHeld, ifNamed, judging, lenIn, packetIn, readIn}
 use Rattle.lookup.specs.Promise.{Finds, Lends, Reads, foundAs, packetStart}
 use Rattle.lookup.specs.Refusals.{lengthPaper, paper, presencePaper}
@@ -41,7 +41,7 @@ module _ (su : Setup) (st le : List ℕ) (a : ℕ) where
   unfolding foundAs packetIn
   finds-refused r e p q = record { same = sym (spot-refused su a _ e _ (sym p ∙ q)); inside = tt }
 
-  pub finds-at : (c : Cell) → Packet su st le a c → (n : ℕ) → n ≡ getD le (c .row) 0 → Finds su st le a (Wh.At (record { from = c .from; len = n }))
+  pub finds-at : (c : Cell) → PacketAt su st le a c → (n : ℕ) → n ≡ getD le (c .row) 0 → Finds su st le a (Wh.At (record { from = c .from; len = n }))
   unfolding foundAs packetIn ifHeld ifNamed part
   finds-at c k n e =
       let s = k .short in

@@ -26,7 +26,8 @@ use Rattle.slots.specs.declared.StoreRefusal.{StoreRefusal}
 use Rattle.slots.specs.declared.search.Spot.{Spot}
 use Rattle.slots.specs.declared.search.Spot.the-variants.{Refused, At}
 
-pub record Packet (su : Setup) (st le : List ℕ) (a : ℕ) (c : Cell) : Type 0 where
+-- an address names the packet in this cell
+pub record PacketAt (su : Setup) (st le : List ℕ) (a : ℕ) (c : Cell) : Type 0 where
   pub is : c ≡ cellOf su (poolOf a) (slotOf a)
   pub inside : Within su (length st) le c
   pub there : find (view su st le) a ≡ held (getD le (c .row) 0) (part (c .from) (c .size) st)
@@ -63,7 +64,7 @@ module _ (su : Setup) (st le : List ℕ) (k i : ℕ) (n : ℕ) (b : List ℕ) (q
       go (has-slot l m) = (l, m, λ f. found-apart tt (find-vacant su st le k i l m f) q)
 
 module _ (su : Setup) (st le : List ℕ) (fine : Sound su st le) (a : ℕ) where
-  pub packet-there : (n : ℕ) (b : List ℕ) → find (view su st le) a ≡ held n b → Packet su st le a (cellOf su (poolOf a) (slotOf a))
+  pub packet-there : (n : ℕ) (b : List ℕ) → find (view su st le) a ≡ held n b → PacketAt su st le a (cellOf su (poolOf a) (slotOf a))
   unfolding bytesAt
   packet-there n b q =
       let h = held-inside su st le (poolOf a) (slotOf a) n b q in
@@ -75,7 +76,7 @@ module _ (su : Setup) (st le : List ℕ) (fine : Sound su st le) (a : ℕ) where
         short = ⊎-elim (λ f. absurd (h .2 f)) (λ l. l) (w .len-ok);
       }
 
-  pub packet : (r : Spot) (c : Cell) → r ≡ spotOf su a (find (view su st le) a) → r ≡ At c → Packet su st le a c
-  packet r c p q =
+  pub packet-found : (r : Spot) (c : Cell) → r ≡ spotOf su a (find (view su st le) a) → r ≡ At c → PacketAt su st le a c
+  packet-found r c p q =
       let s = spot-at su a _ c (sym p ∙ q) in
-      subst (Packet su st le a) (sym (s .3)) (packet-there (s .0) (s .1) (s .2))
+      subst (PacketAt su st le a) (sym (s .3)) (packet-there (s .0) (s .1) (s .2))

@@ -6,7 +6,7 @@ use Rattle.layout.specs.Judge.{Sound}
 use Rattle.layout.specs.Layout.{allRows}
 use Rattle.layout.specs.Limits.{storeFree}
 use Rattle.lookup.proofs.Judging.{judging-fine}
-use Rattle.lookup.proofs.Packets.{Packet, held-inside, spot-refused}
+use Rattle.lookup.proofs.Packets.{PacketAt, held-inside, spot-refused}
 use Rattle.lookup.specs.Calls.{ifHeld, ifNamed, judging}
 use Rattle.lookup.specs.Refusals.{paper}
 use Rattle.rules.specs.Papers.{Outcome, Paper, after, done, no, refused, says}
@@ -69,7 +69,7 @@ module _ (su : Setup) (st le : List ℕ) (a : ℕ) where
   unfolding deleteIn deletedPaper
   delete-refused r e p q = does-refused su st le _ (paper e) (spot-refused su a _ e _ (sym p ∙ q))
 
-  pub delete-at : Sound su st le → (c : Cell) → Packet su st le a c → (st′ le′ : List ℕ) → st′ ≡ put (c .from) (c .size) (replicate (c .size) 0) st
+  pub delete-at : Sound su st le → (c : Cell) → PacketAt su st le a c → (st′ le′ : List ℕ) → st′ ≡ put (c .from) (c .size) (replicate (c .size) 0) st
       → le′ ≡ set le (c .row) storeFree → Does su st le (λ ps. deleteIn ps a) (deletedPaper D.Done) st′ le′
   unfolding deleteIn deletedPaper ifHeld ifNamed
   delete-at fine c k st′ le′ p q =

@@ -2,7 +2,7 @@
 -- Assumes nothing.
 use Rattle.layout.proofs.Bounds.{bounds}
 use Rattle.lookup.proofs.Asks.{finds-at, finds-refused}
-use Rattle.lookup.proofs.Packets.{Packet, packet}
+use Rattle.lookup.proofs.Packets.{PacketAt, packet-found}
 use native.Mathlib.Omega.{arith}
 use borrow.Author.Needs.{needs}
 use Rattle.lookup.proofs.find.Statement.{statement}
@@ -13,12 +13,12 @@ locate-requires c κs = let h = bounds (c .before .before .pre) in (h .few-pools
 
 -- the packet that was found
 found : (c : tie.After-spot2)
-    → Packet (c .before .before .before .before .before .args .setup) (c .before .before .before .before .before .args .store .now)
+    → PacketAt (c .before .before .before .before .before .args .setup) (c .before .before .before .before .before .args .store .now)
     (c .before .before .before .before .before .args .lens .now) (c .before .before .before .before .before .args .addr)
     (c .spot2 .given .0 .0)
 found c =
     let s = c .before .before .before .before .before in
-    packet (s .args .setup) (s .args .store .now) (s .args .lens .now) (s .pre) (s .args .addr) _ (c .spot2 .given .0 .0)
+    packet-found (s .args .setup) (s .args .store .now) (s .args .lens .now) (s .pre) (s .args .addr) _ (c .spot2 .given .0 .0)
     (c .before .before .locate .ensures (s .args .store .now)) (c .spot2 .given .1)
 
 mul-wide : tie.Need-mul-wide
