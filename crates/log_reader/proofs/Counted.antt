@@ -37,7 +37,7 @@ same-record log at end = unfold recordIn in refl
 -- a record that lies between its ends
 pub lies : (log : List ℕ) (at end x y : ℕ) → end ≤ length log → at + 17 ≤ end → x ≡ number 8 (at + 1) log → y ≡ number 8 (at + 9) log
     → Record (record { flag = getD log at 0; id = x; addr = y; from = at + 17; to = end }) ≡ between log at end
-unfolding between
+unfolding between recordIn
 lies log at end x y h k e f =
     simp (le-ltb _ _ h, le-ltb _ _ k)
     (ap₂ (λ (a b : ℕ). Record (record { flag = getD log at 0; id = a; addr = b; from = at + 17; to = end })) e f)

@@ -1,13 +1,12 @@
 -- Record i of a log, where the log's numbers keep it inside the bytes given. Places and numbers are those of `log`'s `Reading`.
 use Prim.Native.Nat.{_*_, _+_, _-_, ℕ}
 use Rattle.log.specs.Log.{LogRecord}
-use Rattle.log.specs.Reading.{countOf, endOf, offsetOf}
+use Rattle.log.specs.Reading.{recordIn, countOf, endOf, offsetOf}
 use Rattle.log_reader.specs.declared.Found.{Found}
 use Rattle.log_reader.specs.declared.Found.the-variants.{Outside, Record}
 use Rattle.log_reader.specs.declared.Item.{Item}
-use Rattle.words.specs.Words.{number}
 use lib.Dec.{ltb}
-use lib.ListN.{drop, getD, length, take}
+use lib.ListN.{drop, length, take}
 use mathlib.Core.Bool.{cond}
 use mathlib.Core.List.{List}
 
@@ -15,9 +14,9 @@ use mathlib.Core.List.{List}
 abbrev pub itemIn : List ℕ → ℕ → ℕ → Item
 itemIn log at end =
     record {
-      flag = getD log at 0;
-      id = number 8 (at + 1) log;
-      addr = number 8 (at + 9) log;
+      flag = recordIn log at end .flag;
+      id = recordIn log at end .id;
+      addr = recordIn log at end .addr;
       from = at + 17;
       to = end;
     }

@@ -22,10 +22,6 @@ pub and-right : (a b : Bool) → (a && b) ≡ true → b ≡ true
 and-right true b e = e
 and-right false b e = let z : _≡_ {A = ℕ} 0 1 = cc in absurd (omega arith)
 
-pub and-true : (b : Bool) → (b && true) ≡ b
-and-true true = refl
-and-true false = refl
-
 pub all-each : (bs : List Bool) → allOf bs ≡ true → Each bs
 unfolding allOf
 all-each [] e = tt

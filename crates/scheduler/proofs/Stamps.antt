@@ -1,21 +1,19 @@
 -- A stamp that is read from bytes has a time in range.
 -- Assumes nothing.
-use Prim.Native.Nat.{_*_, _+_, _-_, _/_, _<_, _^_, _≤_, suc, zero, ℕ}
+use Prim.Native.Nat.{_*_, _+_, _-_, _<_, _^_, _≤_, suc, zero, ℕ}
 use Rattle.packet.specs.Packet.{dataFrom, dataOf, shortest}
 use Rattle.packet.specs.declared.Reading.the-variants.{Packet, Unreadable}
 use Rattle.packet.specs.declared.Reading.{Reading}
 use Rattle.rules.specs.Tests.{unless}
 use Rattle.scheduler.specs.Fits.{Bytes}
-use Rattle.stamp.specs.Stamp.{Timely, secsOf, stampAt, stampOf, timeAt}
+use Rattle.stamp.proofs.Seconds.{time-in-range}
+use Rattle.stamp.specs.Stamp.{Timely, stampAt, stampOf}
 use Rattle.stamp.specs.declared.Stamp.the-variants.{Refused}
 use Rattle.stamp.specs.declared.Stamp.{Stamp}
-use Rattle.time.proofs.Size.{mag-add, mag-mul, mag-sub, small-ok}
-use Rattle.time.specs.Time.{InRange}
 use Rattle.words.proofs.Width.{byte-more, widen}
 use Rattle.words.specs.Words.{number}
 use borrow.Author.Tests.{leb-true}
 use lib.Dec.{eqb}
-use lib.IntN.{_*ℤ_, _-ℤ_, pos}
 use lib.ListN.{drop, getD, take}
 use lib.Seq.{getD-drop}
 use mathlib.Core.Bool.{Bool, cond, false, true}
@@ -43,14 +41,6 @@ number-below : (s : List ℕ) → Bytes s → (k at : ℕ) → number k at s < 2
 unfolding number
 number-below s h zero at = omega arith
 number-below s h (suc k) at = rw (← (add-one k)) (byte-more k (number k at s) (getD s (at + k) 0) (number-below s h k at) (h (at + k)))
-
-time-in-range : (day ms : ℕ) → day < 16777216 → ms ≤ 86399999 → InRange (timeAt day ms)
-time-in-range day ms d m =
-    record {
-      secs = small-ok (secsOf day ms)
-          (omega (arith, mag-sub day 4383, mag-mul (pos day -ℤ pos 4383) 86400, mag-add ((pos day -ℤ pos 4383) *ℤ pos 86400) (pos (ms / 1000))));
-      nanos = omega arith;
-    }
 
 unless-timely : (b : Bool) (x : Stamp) → (b ≡ true → Timely x) → Timely (unless b Refused x)
 unfolding unless

@@ -5,7 +5,6 @@ use Rattle.rows.proofs.Order.{InRange, ordered-cons}
 use Rattle.rows.proofs.Rows.{length-unpack}
 use Rattle.rows.specs.Entries.{Entry, time, unpack}
 use Rattle.rows.specs.Order.{ordered, orderedFrom}
-use Rattle.rules.proofs.All.{and-true}
 use Rattle.rules.proofs.Cases.{eq-or-ne, le-or-lt}
 use Rattle.table.proofs.Before.{below-head, below-le, below-none}
 use Rattle.selection.proofs.Spans.{between, filter-same, span-part}
@@ -15,7 +14,7 @@ use Rattle.time.specs.Time.{far, giga, instantOf}
 use borrow.Author.Tests.{eq-eqb, le-leb, le-ltb, lt-leb, lt-ltb, ne-eqb}
 use lib.Dec.{leb, ltb}
 use lib.ListN.{drop, length, length-drop, length-take, take}
-use mathlib.Core.Bool.{Bool, _&&_, true}
+use mathlib.Core.Bool.{Bool, _&&_, and-true, true}
 use mathlib.Core.List.{List, [], _∷_}
 use mathlib.Core.Logic.{⊎-elim}
 use mathlib.Core.Path.{_∙_, _≡_, ap, refl, sym}

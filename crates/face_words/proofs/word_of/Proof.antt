@@ -1,6 +1,7 @@
 -- `face_words::word_of` meets its contract.
 -- Assumes nothing.
-use Rattle.face_words.proofs.Signed.{down-casts, down-fits, down-small, down-word, up-casts, up-word}
+use Rattle.face_words.proofs.Signed.{down-small, down-word, up-word}
+use Rattle.time.proofs.Sign.{down-casts, down-fits, up-casts}
 use mir.Syntax.{w64}
 use mir.Val.{SFits}
 use borrow.Author.Needs.{needs}

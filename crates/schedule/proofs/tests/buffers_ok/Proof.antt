@@ -1,9 +1,9 @@
 -- `schedule::tests::buffers_ok` meets its contract.
 -- Assumes nothing.
+use mathlib.Core.Bool.{and-true}
 use mathlib.Core.Path.{_∙_, sym}
 use native.Mathlib.Omega.{arith}
 use borrow.Author.Tests.{not-false, not-true}
-use Rattle.rules.proofs.All.{and-true}
 use Rattle.rules.specs.Tests.{allOf}
 use Rattle.schedule.specs.Judge.{buffersOk}
 use Rattle.schedule.proofs.Facts.{setup-facts}

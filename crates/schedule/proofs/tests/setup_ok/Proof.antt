@@ -1,9 +1,9 @@
 -- `schedule::tests::setup_ok` meets its contract.
 -- Assumes nothing.
+use mathlib.Core.Bool.{and-true}
 use mathlib.Core.Path.{_∙_, sym}
 use borrow.Author.Needs.{needs}
 use borrow.Author.Tests.{le-leb, lt-leb, not-false, not-true}
-use Rattle.rules.proofs.All.{and-true}
 use Rattle.rules.specs.Tests.{allOf}
 use Rattle.schedule.specs.Judge.{setupOk}
 use Rattle.schedule.proofs.tests.setup_ok.Statement.{statement}

@@ -1,10 +1,10 @@
 -- `schedule::tests::state_ok` meets its contract.
 -- Assumes nothing.
+use mathlib.Core.Bool.{and-true}
 use mathlib.Core.Path.{_∙_, sym}
 use native.Mathlib.Omega.{arith}
 use borrow.Author.Needs.{needs}
 use borrow.Author.Tests.{le-leb, lt-leb, not-false, not-true}
-use Rattle.rules.proofs.All.{and-true}
 use Rattle.rules.specs.Tests.{allOf}
 use Rattle.schedule.specs.Judge.{stateOk}
 use Rattle.schedule.proofs.Facts.{setup-facts}
