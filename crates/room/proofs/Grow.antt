@@ -3,7 +3,7 @@ use Prim.Native.Nat.{_<_, suc, zero, ℕ}
 use Rattle.address.specs.Address.{poolOf, slotOf}
 use Rattle.slots.specs.Pools.{Pool, Slot, find, findAt, findSlot, free}
 use Rattle.store.specs.Edits.{edit, editAt, editSlot}
-use Rattle.scheduler.proofs.Subpools.{slots-many}
+use Rattle.store_laws.proofs.Fitting.{slots-many}
 use lib.ListN.{length, replicate}
 use mathlib.Core.List.{List, [], _++_, _∷_}
 use mathlib.Core.Path.{_≡_, ap, refl}

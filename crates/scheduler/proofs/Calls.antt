@@ -20,8 +20,9 @@ use Rattle.schedule.specs.Starting.{startIn}
 use Rattle.schedule.specs.State.{State, recordOf, withEntries, withPools}
 use Rattle.schedule.specs.declared.Setup.{Setup}
 use Rattle.scheduler.proofs.Stamps.{data-bytes, stamp-timely}
-use Rattle.scheduler.proofs.Subpools.{add-fits, delete-fits, fresh-fits, rewrite-fits}
-use Rattle.scheduler.specs.Fits.{Bytes, Fits, Gives, PoolsFit}
+use Rattle.store_laws.proofs.Fitting.{add-fits, delete-fits, fresh-fits, rewrite-fits}
+use Rattle.scheduler.specs.Fits.{Bytes, Fits, Gives}
+use Rattle.store_laws.specs.Fits.{PoolsFit}
 use Rattle.scheduler.specs.Steps.{ofPools, ofRecord}
 use Rattle.stamp.specs.Stamp.{Timely, stampOf}
 use Rattle.stamp.specs.declared.Stamp.the-variants.{At, Refused}

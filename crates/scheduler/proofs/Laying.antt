@@ -1,29 +1,22 @@
 -- Subpools that fit the setup, laid out as the two lent lists, are read back as they were; and what is read from sound lists fits.
 -- Assumes nothing.
-use Rattle.rules.proofs.Each.{length-each}
 use Prim.Native.Nat.{_*_, _+_, _<_, _≤_, suc, zero, ℕ}
 use Rattle.rules.proofs.All.{all-at, all-each}
-use Rattle.scheduler.proofs.Subpools.{each-fits}
-use Rattle.scheduler.specs.Fits.{PoolFits, PoolsFit, SlotFits, SlotsFit}
-use Rattle.layout.proofs.Bounds.{bounds, sized-fits}
+use Rattle.store_laws.specs.Fits.{PoolFits, PoolsFit, SlotFits, SlotsFit}
+use Rattle.layout.proofs.Bounds.{sized-fits}
 use Rattle.slots.proofs.Find.{slot-free, slot-taken}
-use Rattle.slots.proofs.Lists.{part-length}
-use Rattle.lookup.proofs.Within.{within}
-use Rattle.layout.specs.Judge.{Sized, Sound, poolOkAt, setupOk}
+use Rattle.layout.specs.Judge.{Sized, poolOkAt, setupOk}
 use Rattle.layout.specs.Layout.{allBytes, allRows, bytesBefore, rowsBefore, sizeAt, slotsAt}
 use Rattle.layout.specs.Limits.{maxSlotSize, storeFree}
 use Rattle.slots.specs.Pools.{Pool, Slot, free, taken}
-use Rattle.slots.specs.View.{Leaves, bytesAt, poolBytes, lenAt, lenOf, poolLens, lensWith, marked, part, poolIn, rawOf, slotBytes, slotFrom, slotIn, slotLens, storeWith, view}
+use Rattle.slots.specs.View.{Leaves, bytesAt, poolBytes, lenAt, lenOf, poolLens, lensWith, part, poolIn, rawOf, slotBytes, slotFrom, slotIn, slotLens, storeWith, view}
 use Rattle.rules.specs.Lists.{each}
 use Rattle.layout.specs.declared.Setup.{Setup}
-use Rattle.store_laws.proofs.Fitting.{AllFit, Fitting}
-use borrow.Author.Tests.{eqb-false, leb-true}
-use lib.Dec.{eqb}
+use borrow.Author.Tests.{leb-true}
 use lib.ListN.{drop, getD, length, length-append, length-drop, take}
 use lib.Seq.{drop-at, drop-drop, getD-drop, take-at}
-use mathlib.Core.Bool.{Bool, false, true}
+use mathlib.Core.Bool.{true}
 use mathlib.Core.List.{List, [], _++_, _∷_, append-assoc}
-use mathlib.Core.Logic.{_⊎_, ⊎-elim}
 use mathlib.Core.Path.{_∙_, _≡_, ap, ap₂, refl, subst, sym}
 use native.Mathlib.Omega.{arith}
 
@@ -43,14 +36,6 @@ raw-length z (taken n b) h = h .0
 slot-back : (z : ℕ) (x : Slot) → SlotFits z x → z < storeFree → slotFrom (lenOf x) (rawOf x) ≡ x
 slot-back z (free b) h l = slot-free storeFree b refl
 slot-back z (taken n b) h l = slot-taken n b (λ e. omega (arith, h .1))
-
-slot-fits : (z w : ℕ) (b : List ℕ) → (w ≡ storeFree) ⊎ (w ≤ z) → length b ≡ z → SlotFits z (slotFrom w b)
-unfolding marked
-slot-fits z w b h l = go (eqb w storeFree) refl
-  where
-    go : (t : Bool) → eqb w storeFree ≡ t → SlotFits z (marked t w b)
-    go true e = l
-    go false e = (l, ⊎-elim (λ f. absurd (eqb-false w storeFree e f)) (λ m. m) h)
 
 -- ---- the slots of a subpool
 
@@ -80,11 +65,6 @@ slots-bytes z (x ∷ xs) h = length-append (rawOf x) (slotBytes xs) ∙ omega (a
 slots-lens : (xs : List Slot) → length (slotLens xs) ≡ length xs
 slots-lens [] = refl
 slots-lens (x ∷ xs) = ap suc (slots-lens xs)
-
-slots-each : (f : ℕ → Slot) (z n i : ℕ) → ((t : ℕ) → t < i + n → SlotFits z (f t)) → SlotsFit z (each f i n)
-unfolding each
-slots-each f z zero i h = tt
-slots-each f z (suc n) i h = (h i (omega arith), slots-each f z n (suc i) (λ t l. h t (omega arith)))
 
 -- ---- the subpools
 
@@ -177,26 +157,3 @@ module _ (su : Setup) (st le : List ℕ) (ps : List Pool) (s : Sized su st le) (
         same-length = simp (length-append, length-drop) (omega (arith, f .1));
         same-rows = simp (length-append, length-drop) (omega (arith, f .2));
       }
-
--- what sound lists stand for
-pub view-fits : (su : Setup) (st le : List ℕ) → Sound su st le → PoolsFit su 0 (view su st le)
-unfolding view lenAt bytesAt
-view-fits su st le s =
-    each-fits su (poolIn su st le) (su .pools) 0 (omega arith)
-    (λ k l. record {
-      size = refl;
-      number = length-each _ (slotsAt su k) 0;
-      slots = slots-each _ (sizeAt su k) (slotsAt su k) 0
-          (λ i m. let w = within su (length st) le (bounds s) k i l (omega arith) in
-          slot-fits (sizeAt su k) _ _ (bounds s .rows k i l (omega arith)) (part-length _ (sizeAt su k) st (w .bytes-fit)));
-    })
-
--- the part of it that the store's own laws speak of
-slot-packets-fit : (z : ℕ) (xs : List Slot) → SlotsFit z xs → AllFit z xs
-slot-packets-fit z [] h = tt
-slot-packets-fit z (free b ∷ xs) h = (tt, slot-packets-fit z xs (h .1))
-slot-packets-fit z (taken n b ∷ xs) h = (h .0 .1, slot-packets-fit z xs (h .1))
-
-pub packets-fit : (su : Setup) (ps : List Pool) (k : ℕ) → PoolsFit su k ps → Fitting ps
-packets-fit su [] k h = tt
-packets-fit su (p ∷ ps) k h = (slot-packets-fit (p .size) (p .slots) (h .0 .slots), packets-fit su ps (suc k) (h .1))

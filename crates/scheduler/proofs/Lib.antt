@@ -6,7 +6,6 @@ pub mod RefusalKeeps
 pub mod Back
 pub mod OneToOne
 pub mod OneOutcome
-pub mod Subpools
 pub mod Laying
 pub mod Stamps
 pub mod Calls

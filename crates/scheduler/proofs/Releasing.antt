@@ -14,8 +14,9 @@ use Rattle.scheduler.proofs.OneOutcome.{one-outcome}
 use Rattle.scheduler.proofs.OneToOne.{one-ticked}
 use Rattle.scheduler.proofs.RefusalKeeps.{call-keeps}
 use Rattle.scheduler.proofs.Standing.{outcome-sound, outcome-state, sound-fits}
-use Rattle.scheduler.proofs.Subpools.{delete-fits}
-use Rattle.scheduler.specs.Fits.{Fits, Gives, PoolsFit}
+use Rattle.store_laws.proofs.Fitting.{delete-fits}
+use Rattle.scheduler.specs.Fits.{Fits, Gives}
+use Rattle.store_laws.specs.Fits.{PoolsFit}
 use Rattle.scheduler.specs.Laws.{Same, StepsAs}
 use Rattle.scheduler.specs.Steps.{step, tick, ticked}
 use Rattle.scheduler.specs.Words.{Inside}

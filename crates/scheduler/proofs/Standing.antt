@@ -9,11 +9,11 @@ use Rattle.schedule.specs.Judge.{Sound, buffersOk, setupOk, stateOk}
 use Rattle.schedule.specs.Promise.{Writes}
 use Rattle.schedule.specs.State.{State, recordOf, stateOf}
 use Rattle.schedule.specs.declared.Setup.{Setup}
-use Rattle.scheduler.proofs.Laying.{leaves-laid, packets-fit, view-fits}
+use Rattle.scheduler.proofs.Laying.{leaves-laid}
 use Rattle.scheduler.specs.Fits.{Fits, Gives}
 use Rattle.layout.specs.Judge.{Sized}
 use Rattle.slots.specs.View.{lensWith, storeWith}
-use Rattle.store_laws.proofs.Fitting.{sound-of}
+use Rattle.store_laws.proofs.Fitting.{sound-of, view-fits}
 use Rattle.rows.proofs.Rows.{length-relaid, length-unpack, unpack-relaid}
 use Rattle.rows.specs.Entries.{relaid, width}
 use Rattle.rows.specs.Order.{ordered}
@@ -57,7 +57,7 @@ module _ (su : Setup) (st le ro : List ℕ) (n : ℕ) (t : State) (ok : setupOk 
   unfolding stateOk
   laid-sound =
       let l = leaves-laid (su .store) st le (t .pools) sized (f .pools) in
-      let k = sound-of (su .store) st le (t .pools) _ _ sized l (packets-fit (su .store) (t .pools) 0 (f .pools)) in
+      let k = sound-of (su .store) st le (t .pools) _ _ sized l (f .pools) in
       let u = ap ordered (unpack-relaid ro n (t .entries)) ∙ f .kept in
       let both : (inRange (t .clock) && marginInRange (t .margin)) ≡ true = rw (f .clock) (f .margin) in
       record {

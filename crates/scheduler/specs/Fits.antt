@@ -1,38 +1,16 @@
 -- States that a sound scheduler can be in: what refusals 1 to 3 ask of setup, record and tables, said of a state.
-use Prim.Native.Nat.{_<_, _≤_, suc, ℕ}
+use Prim.Native.Nat.{_<_, _≤_, ℕ}
 use Rattle.rules.specs.Papers.{Outcome, done, refused}
 use Rattle.schedule.specs.State.{State}
 use Rattle.schedule.specs.declared.Setup.{Setup}
 use Rattle.scheduler.specs.Steps.{Request, insertWrapped}
-use Rattle.layout.specs.Layout.{sizeAt, slotsAt}
-use Rattle.slots.specs.Pools.{Pool, Slot, free, taken}
-use Rattle.layout.specs.declared.Setup.{Setup as StoreSetup}
 use Rattle.rows.specs.Order.{ordered}
+use Rattle.store_laws.specs.Fits.{PoolsFit}
 use Rattle.time.specs.Time.{inRange, marginInRange}
 use lib.ListN.{getD, length}
 use mathlib.Core.Bool.{true}
 use mathlib.Core.List.{List, [], _∷_}
 use mathlib.Core.Path.{_≡_}
-
--- a slot of z bytes: it has them all, and a packet in it is no longer
-abbrev pub SlotFits : ℕ → Slot → Type 0
-SlotFits z (free b) = length b ≡ z
-SlotFits z (taken n b) = (length b ≡ z) × (n ≤ z)
-
-abbrev pub SlotsFit : ℕ → List Slot → Type 0
-SlotsFit z [] = Unit {0}
-SlotsFit z (x ∷ xs) = SlotFits z x × SlotsFit z xs
-
--- subpool k of the setup
-pub record PoolFits (su : StoreSetup) (k : ℕ) (p : Pool) : Type 0 where
-  pub size : p .size ≡ sizeAt su k
-  pub number : length (p .slots) ≡ slotsAt su k
-  pub slots : SlotsFit (p .size) (p .slots)
-
--- the subpools of the setup from k on, one after another
-abbrev pub PoolsFit : StoreSetup → ℕ → List Pool → Type 0
-PoolsFit su k [] = k ≡ su .pools
-PoolsFit su k (p ∷ ps) = PoolFits su k p × PoolsFit su (suc k) ps
 
 -- the subpools are the setup's; entries in time order and in range, no more than the capacity; clock and margin in range
 pub record Fits (su : Setup) (s : State) : Type 0 where

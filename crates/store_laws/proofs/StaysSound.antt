@@ -20,10 +20,10 @@ use Rattle.store.specs.declared.Started.the-variants as St
 
 module _ (su : Setup) (st le : List ℕ) (s : Sound su st le) where
   pub add-stays : (d : List ℕ) (p : Paper) (st′ le′ : List ℕ) → Does su st le (λ ps. addIn (su .spill) ps d) p st′ le′ → Sound su st′ le′
-  add-stays d p st′ le′ w = sound-of su st le _ st′ le′ (sized-of s) (w .lists) (add-fits (su .spill) (view su st le) d (view-fits su st le s))
+  add-stays d p st′ le′ w = sound-of su st le _ st′ le′ (sized-of s) (w .lists) (add-fits su (view su st le) (view-fits su st le s) (su .spill) d)
 
   pub delete-stays : (a : ℕ) (p : Paper) (st′ le′ : List ℕ) → Does su st le (λ ps. deleteIn ps a) p st′ le′ → Sound su st′ le′
-  delete-stays a p st′ le′ w = sound-of su st le _ st′ le′ (sized-of s) (w .lists) (delete-fits (view su st le) a (view-fits su st le s))
+  delete-stays a p st′ le′ w = sound-of su st le _ st′ le′ (sized-of s) (w .lists) (delete-fits su (view su st le) (view-fits su st le s) a)
 
   -- the same of the public calls
   pub public-add-stays : (d : List ℕ) (p : Paper) (st′ le′ : List ℕ)
@@ -37,7 +37,7 @@ module _ (su : Setup) (st le : List ℕ) (s : Sound su st le) where
   -- ys was written through the part that `modify_part` lends at an address that holds a packet
   pub modify-stays : (a n : ℕ) (raw ys : List ℕ) → find (view su st le) a ≡ held n raw → length ys ≡ n → Sound su (put (packetStart su a) n ys st) le
   modify-stays a n raw ys q e =
-      sound-of su st le _ _ le (sized-of s) (modify-leaves su st le s a n raw ys q e) (rewrite-fits (view su st le) a ys (view-fits su st le s))
+      sound-of su st le _ _ le (sized-of s) (modify-leaves su st le s a n raw ys q e) (rewrite-fits su (view su st le) (view-fits su st le s) a ys)
 
 -- a fresh start that is not refused makes any two lists sound
 pub judged-fresh-sound : (su : Setup) (st le st′ le′ : List ℕ) → Sized su st le → Leaves su st le (freshPools su) st′ le′ → Sound su st′ le′

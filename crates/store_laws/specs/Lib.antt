@@ -1,2 +1,3 @@
 -- The words of the store's laws.
 pub mod Requests
+pub mod Fits
