@@ -24,6 +24,7 @@ pub fn word(words: &[u64], i: usize) -> u64
     0
 }
 
+// Whether the words of all subpools fit their fields.
 fn is_narrow(words: &[u64]) -> bool
     ensures { λ r. ⌜ r ≡ narrow (now (words .entry)) ⌝ }
 {
@@ -52,6 +53,7 @@ fn narrow_word(words: &[u64], i: usize) -> u16
     narrowed(word(words, i))
 }
 
+// For each subpool its slots, and its slot size.
 fn slots(words: &[u64]) -> [u16; 8]
     requires { ⌜ narrow (now words) ≡ true ⌝ }
     ensures { λ r. ⌜ r ≡ column 3 (now (words .entry)) ⌝ }
@@ -84,6 +86,7 @@ fn sizes(words: &[u64]) -> [u16; 8]
     ]
 }
 
+// A switch: 0 is off, all else on.
 pub fn is_on(w: u64) -> bool
     ensures { λ r. ⌜ r ≡ switched w ⌝ }
 {

@@ -1,2 +1,2 @@
--- What words of digits are.
+-- Words of digits, read and written: what a reader must believe of them.
 pub mod Digits
