@@ -1,5 +1,4 @@
 -- What the deletions by request ID come to, by the row that was found.
--- Assumes nothing.
 use Prim.Native.Nat.{_*_, _-_, _<_, _≤_, ℕ}
 use borrow.Author.Tests.{le-ltb, lt-ltb}
 use lib.ListN.{getD, length}

@@ -1,5 +1,4 @@
 -- The table's rule at each lookup.
--- Assumes nothing.
 use Rattle.rules.proofs.Each.{each-at}
 use Prim.Native.Nat.{_<_, ℕ}
 use Rattle.check_code.specs.CheckCode.{shifted8, tableOf}

@@ -1,5 +1,4 @@
 -- What the table rests on: a number below half the range goes through a shift unchanged but for moving up, so a low byte does through eight.
--- Assumes nothing.
 use Prim.Native.Nat.{_%_, _*_, _+_, _/_, _<_, _^_, _≤_, suc, zero, ℕ}
 use Rattle.check_code.specs.CheckCode.{feed, shift, shifted8, shifts}
 use lib.Arith.{bin-ind, digits-mod}

@@ -1,5 +1,4 @@
 -- What a deletion of several entries comes to: by a range of rows, and by what the range is.
--- Assumes nothing.
 use Prim.Native.Nat.{_+_, _≤_, ℕ}
 use lib.ListN.{drop, length, take}
 use lib.Seq.{take-all}

@@ -1,5 +1,4 @@
 -- The packets of a range of rows: what is left of the sweep, over the store's promise.
--- Assumes nothing.
 use Prim.Native.Nat.{_+_, _-_, _<_, _≤_, suc, ℕ}
 use lib.ListN.{drop, take}
 use mathlib.Core.List.{List, _∷_}

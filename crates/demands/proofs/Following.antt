@@ -2,7 +2,7 @@
 use Prim.Native.Nat.{ℕ}
 use Rattle.demands.proofs.Parts.{same-answer}
 use Rattle.demands.specs.Calling.{Calls, ScheduleChanges, Lent, ScheduleLooks, Modifies, ReadsInto, StoreLooks}
-use Rattle.rules.specs.Papers.{Outcome, after, done, into, says}
+use Rattle.rules.specs.Papers.{Outcome, after, done, through, says}
 use Rattle.schedule.proofs.Facts.{facts}
 use Rattle.schedule.proofs.Promises.{judging-fine}
 use Rattle.schedule.specs.Judge.{Sound}
@@ -97,7 +97,7 @@ module _ (su : Setup) (t : Lent) (x : Answer) (u : Lent) (s : Fine su t) where
       }
 
   modifies : (a : ℕ) (ys : List ℕ) → Modifies su t x u a ys → Follows su (modify a ys) t x u
-  unfolding packetIn ifHeld ifNamed says after step carried stateOf into
+  unfolding packetIn ifHeld ifNamed says after step carried stateOf through
   modifies a ys c =
       go (find (view (su .store) (t .store) (t .lens)) a) refl
       (rw (store-judging-fine (su .store) (t .store) (t .lens) (λ ps. packetIn ps a) (facts s .store)) at (c .answer))

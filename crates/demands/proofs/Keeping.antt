@@ -4,7 +4,7 @@ use Rattle.demands.proofs.Parts.{same-lent}
 use Rattle.demands.specs.Calling.{Calls, ScheduleChanges, Lent, ScheduleLooks, RecordChanges, Modifies, Promised, ReadsInto, StartsOver, StoreChanges, StoreLooks, TicksOver, freshStart, lentTo, request}
 use Rattle.demands.specs.Demands.{EveryCallAnswers}
 use Rattle.record.specs.declared.Record.{Record}
-use Rattle.rules.proofs.Order.{into-says, refusal-keeps}
+use Rattle.rules.proofs.Order.{through-says, refusal-keeps}
 use Rattle.rules.specs.Papers.{Outcome, Paper, done, judgedBy, no, refused, says}
 use Rattle.rules.specs.Tests.{unless}
 use Rattle.schedule.specs.Judge.{buffersOk, judging, setupOk}
@@ -81,7 +81,7 @@ module _ (su : Setup) (t : Lent) (x : Answer) (u : Lent) where
   ticks : (limit : ℕ) (del : Bool) (log : List ℕ) → TicksOver su t x u limit del log → AnsweredOrRefused log x t u
   ticks limit del log c =
       record {
-        in-table = most _ (c .tables .tables .answer ∙ into-says (λ (y : Logged). y .state) _) (judging-most _ (own-tick limit del log));
+        in-table = most _ (c .tables .tables .answer ∙ through-says (λ (y : Logged). y .state) _) (judging-most _ (own-tick limit del log));
         kept = λ above.
             let k =
             tick-keeps su (t .rec) (t .store) (t .lens) (t .rows) log limit del (x .paper) (u .rec) (u .store) (u .lens) (u .rows) (x .buffer)

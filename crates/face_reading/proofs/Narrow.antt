@@ -1,5 +1,4 @@
 -- Words of a good setup fit the fields that hold them; and the setup that was read.
--- Assumes nothing.
 use Rattle.rules.proofs.Each.{each-at}
 use Prim.Native.Nat.{_%_, _*_, _+_, _/_, _<_, _≤_, ℕ}
 use Rattle.face_reading.specs.Inside.{ReadsStore, fine, narrow}

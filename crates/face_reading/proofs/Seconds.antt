@@ -1,5 +1,4 @@
 -- Seconds from their two's complement, as the machine counts.
--- Assumes nothing.
 use Prim.Native.Nat.{_-_, _≤_, suc, zero, ℕ}
 use Rattle.time.proofs.Signed.{pos-back}
 use lib.IntN.{_-ℤ_, negsuc, pos, ℤ}

@@ -1,5 +1,4 @@
 -- The record that was read stands for what the words say.
--- Assumes nothing.
 use Prim.Native.Nat.{_<_, _≤_, ℕ}
 use Rattle.face_reading.specs.Inside.{Stands, clipped}
 use Rattle.face_reading.specs.Reading.{recordFrom, signed, switched, word}

@@ -1,5 +1,4 @@
 -- The 8 words of an answer: values that were padded, and the loop that copies them.
--- Assumes nothing.
 use Prim.Native.Nat.{_+_, _<_, _≤_, ℕ}
 use Rattle.rules.proofs.Each.{each-at}
 use Rattle.face_reading.specs.Reading.{word}

@@ -1,5 +1,4 @@
 -- Seconds and their two's complement, as the machine counts.
--- Assumes nothing.
 use Prim.Native.Nat.{_-_, _≤_, ℕ}
 use Rattle.record.specs.Refusals.{wordOf}
 use Rattle.time.proofs.Sign.{down-back, low, low-fits}

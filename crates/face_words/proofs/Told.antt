@@ -1,5 +1,4 @@
 -- An answer by value, from the case that it is of and the words that it holds.
--- Assumes nothing.
 use Prim.Native.Nat.{ℕ}
 use Rattle.face_words.specs.Inside.{wordsOf}
 use Rattle.rules.specs.Papers.{Paper, no}

@@ -1,5 +1,4 @@
 -- The record's words, as the stores leave them.
--- Assumes nothing.
 use Prim.Native.Nat.{_≤_, ℕ}
 use Rattle.face_words.specs.Inside.{writtenIf}
 use Rattle.lookup.specs.Refusals.{bit}

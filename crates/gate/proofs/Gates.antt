@@ -1,5 +1,4 @@
 -- Refusals 13 and 14 of a state, by its record and by the verdict of `gate`.
--- Assumes nothing.
 use Prim.Native.Nat.{_<_, _≤_, ℕ}
 use borrow.Author.Tests.{le-ltb, lt-ltb}
 use lib.ListN.{length}

@@ -1,5 +1,4 @@
 -- What a stored insertion comes to, by what its tests said.
--- Assumes nothing.
 use Prim.Native.Nat.{_+_, _<_, ℕ}
 use lib.ListN.{length}
 use mathlib.Core.Bool.{false, true}

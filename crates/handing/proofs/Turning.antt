@@ -1,5 +1,4 @@
 -- The turns one after the other: what holds whenever the loop's test is reached.
--- Assumes nothing.
 use Prim.Native.Nat.{_*_, _+_, _-_, _<_, _≤_, suc, ℕ}
 use Rattle.log.proofs.Sizes.{size-records}
 use Rattle.log.proofs.Whole.{ended, left, turn}
@@ -12,7 +11,7 @@ use Rattle.rows.specs.Entries.{Entry, row, unpack}
 use Rattle.turn.proofs.OneTurn.{leave-sound}
 use Rattle.turn.specs.Turned.{Turned}
 use Rattle.turn.specs.Turns.{always, handed, leave, packetOf}
-use Rattle.handing.specs.Handing.{Roomy, Turns, afterAll, turns}
+use Rattle.handing.specs.Handing.{Roomy, HandsOut, afterAll, turns}
 use Rattle.words.specs.Words.{bytesOf}
 use lib.ListN.{drop, drop-of-length-le, length, length-drop}
 use lib.Seq.{sets}
@@ -151,7 +150,7 @@ module _ (su : Setup) (st₀ le₀ log₀ w : List ℕ) (m : ℕ) (del on : Bool
           }
 
     pub turning-last : (l₁ l₂ : List ℕ) → m ≤ i → l₁ ≡ sets log 0 (bytesOf 4 m) → l₂ ≡ sets l₁ 4 (bytesOf 4 at)
-        → Turns su del on (unpack m w) st₀ le₀ log₀ st le l₂
+        → HandsOut su del on (unpack m w) st₀ le₀ log₀ st le l₂
     turning-last l₁ l₂ h w₁ w₂ =
         let d : drop i (unpack m w) ≡ [] = drop-of-length-le (unpack m w) {i = i} (rw length-unpack h) in
         let none : rest st le i ≡ [] = rw d (turns-none (leave del) (always on) (view su st le)) in

@@ -22,7 +22,7 @@ afterAll after [] ps = ps
 afterAll after (e ∷ es) ps = afterAll after es (after ps (e .addr))
 
 -- the turns of the entries es: the log, and the store after them
-pub record Turns (su : Setup) (del on : Bool) (es : List Entry) (st le log st′ le′ log′ : List ℕ) : Type 0 where
+pub record HandsOut (su : Setup) (del on : Bool) (es : List Entry) (st le log st′ le′ log′ : List ℕ) : Type 0 where
   pub wrote : log′ ≡ sets log 0 (logBytes (turns (leave del) (always on) es (view su st le)))
   pub lists : Leaves su st le (afterAll (leave del) es (view su st le)) st′ le′
 

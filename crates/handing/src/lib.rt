@@ -3,7 +3,7 @@ ghost use Rattle.layout.specs.Judge.{Sound as StoreSound};
 ghost use Rattle.slots.specs.View.{view};
 ghost use Rattle.rows.specs.Entries.{unpack};
 ghost use Rattle.rows.specs.Order.{Held};
-ghost use Rattle.handing.specs.Handing.{Roomy, Turns};
+ghost use Rattle.handing.specs.Handing.{Roomy, HandsOut};
 
 // The turns of the first m rows, into the log.
 pub fn hand_out(
@@ -19,7 +19,7 @@ pub fn hand_out(
     requires { ⌜ StoreSound setup (now store) (now lens) ⌝ }
     requires { ⌜ Held (now rows) m ⌝ }
     requires { ⌜ Roomy delete on (unpack m (now rows)) (view setup (now store) (now lens)) (now log) ⌝ }
-    ensures { λ _. ⌜ Turns setup delete on (unpack m (now (rows .entry))) (now (store .entry)) (now (lens .entry)) (now (log .entry))
+    ensures { λ _. ⌜ HandsOut setup delete on (unpack m (now (rows .entry))) (now (store .entry)) (now (lens .entry)) (now (log .entry))
         (now (store .exit)) (now (lens .exit)) (now (log .exit)) ⌝ }
 {
     let mut at = 8 + 4 * m;

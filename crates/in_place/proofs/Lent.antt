@@ -1,6 +1,5 @@
 -- What the walks of the three calls share: the machine values, a record of the function's own lent to a call, and taken back at the last value
 -- that the call says.
--- Assumes nothing.
 use mathlib.Core.Path.{subst}
 use Prim.Native.Nat.{ℕ}
 use mathlib.Core.List.{[], _∷_, List}

@@ -1,7 +1,6 @@
 -- The walk of `enable` and `disable` over their MIR, by hand: they differ in the call and in the mark. The record is copied to a local, which is
 -- lent to the call for a lifetime of the call and taken back at the value that the call leaves.
 -- All that it knows of the call is that it meets its contract.
--- Assumes nothing.
 use mathlib.Core.Path.{_≡_, refl, ap}
 use mathlib.Core.Bool.{Bool}
 use Prim.Native.Nat.{ℕ}

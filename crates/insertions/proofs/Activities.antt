@@ -1,5 +1,4 @@
 -- What inserting one readable command comes to, in the form of the promise.
--- Assumes nothing.
 use Prim.Native.Nat.{ℕ}
 use mathlib.Core.Bool.{false, true}
 use mathlib.Core.List.{List, []}

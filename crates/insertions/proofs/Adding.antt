@@ -1,5 +1,4 @@
 -- What the store said of a packet decides what its insertion comes to.
--- Assumes nothing.
 use Prim.Native.Nat.{_+_, _<_, ℕ}
 use lib.ListN.{getD, length}
 use mathlib.Core.Bool.{Bool, false, true}

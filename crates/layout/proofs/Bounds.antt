@@ -1,5 +1,4 @@
 -- What is known of the setup, the lengths of the lent lists and each length in the table, where none of refusals 1 to 3 is given.
--- Assumes nothing.
 use Prim.Native.Nat.{_+_, _<_, _≤_, suc, zero, zero-le, ℕ}
 use Rattle.layout.proofs.Layouts.{setup-few}
 use Rattle.layout.specs.Judge.{Sized, Sound, buffersOk, lastSize, lenOk, lensOk, poolLensOk, poolOkAt, rowOk, setupOk}

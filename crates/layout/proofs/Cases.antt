@@ -1,5 +1,4 @@
 -- Whether the setup has subpool k, and slot i of it: the three ways that it goes.
--- Assumes nothing.
 use Prim.Native.Nat.{_<_, _≤_, ℕ}
 use Rattle.layout.specs.Layout.{slotsAt}
 use Rattle.rules.proofs.Cases.{le-or-lt}

@@ -1,5 +1,4 @@
 -- Counting the tests that fail: none is all of them passed, and one is not.
--- Assumes nothing.
 use Prim.Native.Nat.{_+_, _<_, _≤_, ℕ}
 use Rattle.rules.proofs.All.{all-not, all-of}
 use Rattle.rules.proofs.Cases.{le-or-lt}

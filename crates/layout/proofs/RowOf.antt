@@ -1,5 +1,4 @@
 -- The row of an address: the cases of its rule, and whose row a row is.
--- Assumes nothing.
 use Prim.Native.Nat.{_+_, _-_, _<_, _≤_, suc, zero, ℕ}
 use Rattle.address.specs.Address.{poolOf, slotOf}
 use Rattle.layout.proofs.Cases.{SlotCase, has-slot, no-pool, no-slot, slot-case}

@@ -1,5 +1,4 @@
 -- Laws of the writers: a turn of the loop that copies, and a record part by part.
--- Assumes nothing.
 use Prim.Native.Nat.{_+_, _<_, ℕ}
 use Rattle.log.specs.Log.{LogRecord, recordBytes}
 use Rattle.words.proofs.Sets.{length-bytes, sets-then}

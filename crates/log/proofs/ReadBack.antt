@@ -1,5 +1,4 @@
 -- A reader finds each record where its offset says: what was written into a log is read back from it.
--- Assumes nothing.
 use Prim.Native.Nat.{_*_, _+_, _-_, _<_, _^_, _≤_, suc, ℕ}
 use Rattle.log.proofs.Sizes.{size-offsets, size-record, size-records, total-more, written}
 use Rattle.log.specs.Log.{LogRecord, logBytes, offsets, recordBytes, records, recordsAt, total}

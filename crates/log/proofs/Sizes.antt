@@ -1,5 +1,4 @@
 -- How long a log is: its total T, which is 8 and for each record an offset (4), flag (1), request ID (8), address (8) and packet.
--- Assumes nothing.
 use Prim.Native.Nat.{_*_, _+_, _≤_, ℕ}
 use Rattle.log.specs.Log.{LogRecord, logBytes, offsets, recordBytes, records, total}
 use Rattle.words.proofs.Sets.{length-bytes}

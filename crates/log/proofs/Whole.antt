@@ -1,5 +1,4 @@
 -- Laws of the whole log: what is left to write, a turn of the loop that writes it, and its end.
--- Assumes nothing.
 use Prim.Native.Nat.{_*_, _+_, _≤_, suc, ℕ}
 use Rattle.log.proofs.Sizes.{size-offsets, size-record}
 use Rattle.log.specs.Log.{LogRecord, logBytes, offsets, recordBytes, records, recordsAt, total}

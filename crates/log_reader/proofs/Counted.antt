@@ -1,4 +1,4 @@
--- What is known of a log that counts a record, and that an item found is the log's record. Assumes nothing.
+-- What is known of a log that counts a record, and that an item found is the log's record.
 use Prim.Native.Nat.{_*_, _+_, _<_, _≤_, ℕ}
 use Rattle.log.specs.Reading.{countOf, endOf, offsetOf, recordIn}
 use Rattle.log_reader.specs.Finding.{between, counted, foundIn, itemIn, recordOf}

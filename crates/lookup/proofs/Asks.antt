@@ -1,5 +1,4 @@
 -- The calls that change nothing: what they answer, from what the code read.
--- Assumes nothing.
 use Prim.Native.Nat.{_+_, _<_, _≤_, ℕ}
 use Rattle.address.specs.Address.{addressOf, poolOf, slotOf}
 use Rattle.layout.specs.Judge.{Sound}

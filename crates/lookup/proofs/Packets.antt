@@ -1,5 +1,4 @@
 -- What is known where the search for an address has found a packet, or refused.
--- Assumes nothing.
 use Prim.Native.Nat.{_+_, _<_, _≤_, ℕ}
 use Rattle.address.specs.Address.{poolOf, slotOf}
 use Rattle.layout.proofs.Bounds.{bounds}

@@ -1,5 +1,4 @@
 -- Marks in the length table: what a row still stands for, which row a turn marks, and which rows are marked after several.
--- Assumes nothing.
 use Prim.Native.Nat.{_+_, _<_, _≤_, ℕ}
 use Rattle.measure.specs.Inside.{Marked, added, marking, standing}
 use Rattle.rules.proofs.All.{all-each}

@@ -1,5 +1,4 @@
 -- Counting the records that fit: what is left to count, over subpools in which each address finds what its row still stands for.
--- Assumes nothing.
 use Prim.Native.Nat.{_+_, _<_, _≤_, suc, ℕ}
 use Rattle.measure.proofs.Marking.{marked-more, marked-none}
 use Rattle.measure.proofs.Standing.{Stands, stands-first, stands-next}

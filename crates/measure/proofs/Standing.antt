@@ -1,5 +1,4 @@
 -- Subpools in which each address finds as many packet bytes as its row of the length table still stands for, turn by turn.
--- Assumes nothing.
 use Prim.Native.Nat.{_≤_, ℕ}
 use Rattle.measure.proofs.Marking.{marking-keep, standing-beyond, standing-gone, standing-marked, standing-other, standing-there}
 use Rattle.rules.proofs.Cases.{eq-or-ne}

@@ -1,5 +1,4 @@
 -- Taking the marks off the length table: with all of them off it is the table that was there before.
--- Assumes nothing.
 use Prim.Native.Nat.{_+_, _-_, _<_, _≤_, ℕ}
 use Rattle.rules.proofs.Cases.{eq-or-ne, le-or-lt}
 use Rattle.measure.specs.Inside.{Marked, Unmarked, added, bare}

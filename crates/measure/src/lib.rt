@@ -18,12 +18,6 @@ use layout::STORE_FREE;
 // is taken for the mark of a free slot, 65,535.
 const MARK: u16 = 8192;
 
-fn wide(x: u16) -> usize
-    ensures { λ r. ⌜ (r ≡ x) × (r < 65536) ⌝ }
-{
-    x as usize
-}
-
 // The packet bytes that a row of the length table still stands for: none where the setup has no such row, the slot is free, or its packet
 // was handed out.
 fn bytes_left(lens: &[u16], all: usize, row: usize) -> usize
@@ -37,7 +31,7 @@ fn bytes_left(lens: &[u16], all: usize, row: usize) -> usize
     if MARK <= w {
         return 0;
     }
-    wide(w)
+    layout::wide(w)
 }
 
 // Marks a packet as handed out, in delete mode.

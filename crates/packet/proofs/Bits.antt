@@ -1,5 +1,4 @@
 -- Version 0, type 1 and secondary header flag 1 are one test on the first two bytes.
--- Assumes nothing.
 use Prim.Native.Nat.{_%_, _/_, ℕ}
 use Rattle.rules.proofs.All.{all-each, each-all, fails}
 use Rattle.rules.specs.Tests.{allOf}

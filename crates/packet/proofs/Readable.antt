@@ -1,5 +1,4 @@
 -- What a reading says of the bytes: a packet is readable exactly if all five tests pass, whatever their order.
--- Assumes nothing.
 use Prim.Native.Nat.{_+_, _-_, _≤_, ℕ}
 use Rattle.packet.specs.Packet.{HandsBack, checkBytes, dataAt, dataFrom, dataOf, headerBits, headerOf, longEnough, readOf, shortest, totalInBounds, totalOf, versionNibble}
 use Rattle.rules.proofs.All.{all-each}

@@ -1,5 +1,4 @@
 -- What the walks of the thin functions share: the machine values of a record and of an answer, and what whoever holds both knows of each.
--- Assumes nothing.
 use mathlib.Core.List.{[], _∷_, List}
 use mir.Val.{Val}
 use denote.Laws.{Is}

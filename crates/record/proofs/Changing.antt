@@ -1,5 +1,4 @@
 -- What each change comes to, by the tests that it made; and that a refusal keeps the record.
--- Assumes nothing.
 use mathlib.Core.Bool.{Bool, false, true}
 use mathlib.Core.Path.{_≡_, _∙_, ap}
 use Rattle.rules.proofs.Order.{refusal-keeps}

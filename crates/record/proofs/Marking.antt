@@ -1,7 +1,6 @@
 -- The walk of `enable` and `disable` over their MIR, by hand: they differ in the mark. The borrow is opened, the record is copied out and passed
 -- to `marked`, what that returns is stored behind the borrow, and the borrow is closed there.
 -- All that it knows of `marked` is that it meets its contract.
--- Assumes nothing.
 use mathlib.Core.Path.{_≡_, refl, ap}
 use mathlib.Core.Bool.{Bool, false, true}
 use Prim.Native.Nat.{ℕ}

@@ -1,5 +1,4 @@
 -- No refusal of the schedule has the number 0, which is an answer's.
--- Assumes nothing.
 use lib.Dec.{eqb}
 use borrow.Author.Tests.{eqb-false}
 use mathlib.Core.Bool.{false}

@@ -1,4 +1,4 @@
--- Counting the records of a log one by one. Assumes nothing.
+-- Counting the records of a log one by one.
 use Prim.Native.Nat.{_+_, _-_, _<_, _≤_, suc, ℕ}
 use Rattle.log_reader.specs.Finding.{counted, foundIn}
 use Rattle.log_reader.specs.declared.Found.{Found}

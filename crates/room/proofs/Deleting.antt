@@ -9,7 +9,7 @@ use Rattle.room.proofs.Entries.{Slots, filter-slots, slot-at, without-s
 use Rattle.room.proofs.Grow.{Slotted, grow, shape}
 use Rattle.room.proofs.States.{AlikeStates, Fit, grown}
 use Rattle.room.proofs.StoreCalls.{delete-grow, delete-shape}
-use Rattle.rules.specs.Papers.{Outcome, done, into, refused}
+use Rattle.rules.specs.Papers.{Outcome, done, through, refused}
 use Rattle.rules.specs.Tests.{unless}
 use Rattle.schedule.specs.State.{State, withEntries, withPools}
 use Rattle.store.specs.Calls.{deleteIn}
@@ -30,8 +30,8 @@ module _ (ns ks : List ℕ) where
   abbrev grown-sweep : Swept → Swept
   grown-sweep x = record { deleted = x .deleted; missing = x .missing; last = x .last; pools = grow ks (x .pools) }
 
-  swept-grow : (x : Swept) (o : Outcome (List Pool)) → swept (grown-sweep x) (into (grow ks) o) ≡ grown-sweep (swept x o)
-  unfolding swept into
+  swept-grow : (x : Swept) (o : Outcome (List Pool)) → swept (grown-sweep x) (through (grow ks) o) ≡ grown-sweep (swept x o)
+  unfolding swept through
   swept-grow x (refused p) = refl
   swept-grow x (done vs ps) = refl
 
@@ -98,8 +98,8 @@ module _ (ns ks : List ℕ) where
   keeping id s f = takes id (λ a t. done (1 ∷ a ∷ []) t) (λ a t n g. answers _ _ _ t g) s f
 
   freed-too : (s : State) (o : Outcome (List Pool)) → Fit ns s → Left (λ vs ps. shape ps ≡ ns) o
-      → AlikeStates ns ks (freed s o) (freed (grown ks s) (into (grow ks) o))
-  unfolding freed into
+      → AlikeStates ns ks (freed s o) (freed (grown ks s) (through (grow ks) o))
+  unfolding freed through
   freed-too s (refused p) f l = answers _ _ _ s f
   freed-too s (done vs ps) f l = answers _ _ _ (withPools ps s) (record { shaped = l; named = f .named })
 

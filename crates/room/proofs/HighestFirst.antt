@@ -1,5 +1,4 @@
 -- The lowest free slot first is needed: with the highest first, a slot more behind those there would change the answer to an addition.
--- Assumes nothing.
 use Prim.Native.Nat.{ℕ}
 use Rattle.room.specs.FreeSlot.{MoreChangeNothing, highest}
 use Rattle.slots.specs.Pools.{free}

@@ -13,7 +13,7 @@ use Rattle.room.proofs.Grow.{Slotted, grow}
 use Rattle.room.proofs.States.{AlikeStates, Fit, grown}
 use Rattle.room.proofs.StoreCalls.{Placed, adds}
 use Rattle.room.specs.Room.{struck}
-use Rattle.rules.specs.Papers.{Outcome, done, into, refused, says}
+use Rattle.rules.specs.Papers.{Outcome, done, through, refused, says}
 use Rattle.schedule.specs.State.{State, withPools}
 use Rattle.schedule.specs.declared.Setup.{Setup}
 use Rattle.stamp.specs.Stamp.{stampOf}
@@ -45,7 +45,7 @@ module _ (su lu : Setup) (more : su .entries ≤ lu .entries) (ns ks : List ℕ)
 
   stored-too : (t : UnixTime) (id : ℕ) (s : State) → Fit ns s → (o o′ : Outcome (List Pool)) → Alike (grow ks) (Placed ns) o o′
       → AlikeStates ns ks (entered su t id s o) (entered lu t id (grown ks s) o′)
-  unfolding entered into says
+  unfolding entered through says
   stored-too t id s f (refused p) o′ a = record { same = λ h. rw (refused-too _ _ p o′ a h); left = tt }
   stored-too t id s f (done vs ps) o′ a =
       rw (answered-too _ _ vs ps o′ a) (enters t id (getD vs 0 0) _ (withPools ps s) (record { shaped = a .left .0; named = f .named }) (a .left .1))

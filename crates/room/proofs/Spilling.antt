@@ -2,7 +2,7 @@
 use Prim.Native.Nat.{_<_, _≤_, suc, zero, ℕ}
 use Rattle.room.specs.Room.{RoomNeverChangesAnAnswer, addresses, strike, struck}
 use Rattle.room.specs.Spilling.{lastAnswer, line, slots}
-use Rattle.rules.specs.Papers.{after, into, no, says}
+use Rattle.rules.specs.Papers.{after, through, no, says}
 use Rattle.rules.specs.Tests.{allBelow, allOf}
 use Rattle.schedule.specs.Judge.{setupOk}
 use Rattle.scheduler.specs.Steps.{Answer, add, carried, run, step}
@@ -22,12 +22,12 @@ use native.Mathlib.Omega.{arith}
 
 -- the smaller accepts w; there r spilled to subpool 1 and q to 2
 pub small-accepts : lastAnswer (slots true 1) (line 65536 131072) ≡ no 0 (131072 ∷ [])
-unfolding run step carried into says after freshPools each addIn place choose editAt deleteIn ifHeld ifNamed findAt over
+unfolding run step carried through says after freshPools each addIn place choose editAt deleteIn ifHeld ifNamed findAt over
 small-accepts = refl
 
 -- the larger says StoreFull(2); there r lies in subpool 0 and q in 1
 pub large-refuses : lastAnswer (slots true 2) (line 1 65536) ≡ no 12 (2 ∷ [])
-unfolding run step carried into says after freshPools each addIn place choose editAt deleteIn ifHeld ifNamed findAt over
+unfolding run step carried through says after freshPools each addIn place choose editAt deleteIn ifHeld ifNamed findAt over
 large-refuses = refl
 
 slots-ok : setupOk (slots true 1) ≡ true
@@ -36,7 +36,7 @@ slots-ok = refl
 
 -- one list of requests for both: the second packet of 16 bytes spills in the smaller alone
 pub spilling-changes-answers : (larger : Bool) → RoomNeverChangesAnAnswer true larger → ⊥
-unfolding RoomNeverChangesAnAnswer run step carried into says after freshPools each addIn place choose editAt over strike struck addresses
+unfolding RoomNeverChangesAnAnswer run step carried through says after freshPools each addIn place choose editAt over strike struck addresses
 spilling-changes-answers larger demand =
     let qs = add (replicate 16 0) ∷ add (replicate 16 0) ∷ [] in
     let e =

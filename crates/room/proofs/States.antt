@@ -4,7 +4,7 @@ use Rattle.record.specs.declared.Record.{Record}
 use Rattle.room.proofs.Alike.{Alike, answered-too, answers, refused-too, refuses}
 use Rattle.room.proofs.Entries.{Slots}
 use Rattle.room.proofs.Grow.{grow, shape}
-use Rattle.rules.specs.Papers.{Outcome, done, into, refused, says}
+use Rattle.rules.specs.Papers.{Outcome, done, through, refused, says}
 use Rattle.schedule.specs.State.{State, withPools}
 use Rattle.scheduler.specs.Steps.{withRecord}
 use Rattle.slots.specs.Pools.{Pool}
@@ -27,20 +27,20 @@ module _ (ns ks : List ℕ) (s : State) (fits : Fit ns s) where
   -- other subpools
   pub pools-too : (ok : List ℕ → List Pool → Type 0) → ((vs : List ℕ) (ps : List Pool) → ok vs ps → shape ps ≡ ns)
       → (o o′ : Outcome (List Pool)) → Alike (grow ks) ok o o′
-      → AlikeStates ns ks (into (λ ps. withPools ps s) o) (into (λ ps. withPools ps (grown ks s)) o′)
-  unfolding into says
+      → AlikeStates ns ks (through (λ ps. withPools ps s) o) (through (λ ps. withPools ps (grown ks s)) o′)
+  unfolding through says
   pools-too ok f (refused p) o′ a = record { same = λ h. rw (refused-too _ _ p o′ a h); left = tt }
   pools-too ok f (done vs ps) o′ a =
       rw (answered-too _ _ vs ps o′ a) (answers _ _ vs (withPools ps s) (record { shaped = f vs ps (a .left); named = fits .named }))
 
   -- another record
-  pub record-too : (o : Outcome Record) → AlikeStates ns ks (into (withRecord s) o) (into (withRecord (grown ks s)) o)
-  unfolding into
+  pub record-too : (o : Outcome Record) → AlikeStates ns ks (through (withRecord s) o) (through (withRecord (grown ks s)) o)
+  unfolding through
   record-too (refused p) = refuses _ _ p
   record-too (done vs r) = answers _ _ vs (withRecord s r) (record { shaped = fits .shaped; named = fits .named })
 
   -- the same state, whatever is answered
-  pub answer-too : {A : Type 0} (o : Outcome A) → AlikeStates ns ks (into (λ x. s) o) (into (λ x. grown ks s) o)
-  unfolding into
+  pub answer-too : {A : Type 0} (o : Outcome A) → AlikeStates ns ks (through (λ x. s) o) (through (λ x. grown ks s) o)
+  unfolding through
   answer-too (refused p) = refuses _ _ p
   answer-too (done vs x) = answers _ _ vs s fits

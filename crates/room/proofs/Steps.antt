@@ -1,6 +1,7 @@
 -- One request to the smaller scheduler and to the larger.
 use Prim.Native.Nat.{_≤_, ℕ}
-use Rattle.room.proofs.Alike.{Alike, answer-stays, answered-too, clash, refused-too}
+use Rattle.room.proofs.Alike.{Alike, answer-stays, answered-too, refused-too}
+use Rattle.rules.proofs.Cases.{clash}
 use Rattle.room.proofs.Choosing.{Narrow}
 use Rattle.room.proofs.Deleting.{by-id, keeping, resets, windows}
 use Rattle.room.proofs.Grow.{Slotted, edit-grow, grow, shape, shape-edit}
@@ -9,7 +10,7 @@ use Rattle.room.proofs.States.{AlikeStates, Fit, answer-too, grown, poo
 use Rattle.room.proofs.StoreCalls.{Placed, adds, deletes, has-grow, here, len-grow, packet-grow, read-grow}
 use Rattle.room.proofs.Ticking.{grown-log, ticks}
 use Rattle.room.specs.Room.{AllNamed, Named, addresses, struck}
-use Rattle.rules.specs.Papers.{Outcome, after, done, into, refused, says}
+use Rattle.rules.specs.Papers.{Outcome, after, done, through, refused, says}
 use Rattle.schedule.specs.State.{State, recordOf, withPools}
 use Rattle.schedule.specs.declared.Setup.{Setup}
 use Rattle.schedule.specs.Counting.{countIn}
@@ -67,8 +68,8 @@ module _ (ns ks : List ℕ) (s : State) (fits : Fit ns s) where
 
   modifies : (a : ℕ) (d : List ℕ) → Slotted ns a
       → AlikeStates ns ks
-      (into (λ b. withPools (edit (rewrite d) (s .pools) a) s) (packetIn (s .pools) a))
-      (into (λ b. withPools (edit (rewrite d) (grow ks (s .pools)) a) (grown ks s)) (packetIn (grow ks (s .pools)) a))
+      (through (λ b. withPools (edit (rewrite d) (s .pools) a) s) (packetIn (s .pools) a))
+      (through (λ b. withPools (edit (rewrite d) (grow ks (s .pools)) a) (grown ks s)) (packetIn (grow ks (s .pools)) a))
   modifies a d n =
       rw (packet-grow ns ks (s .pools) (fits .shaped) a n, edit-grow (rewrite d) ks (s .pools) a (here ns ks (s .pools) (fits .shaped) a n))
       (answer-too ns ks (withPools (edit (rewrite d) (s .pools) a) s)

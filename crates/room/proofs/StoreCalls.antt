@@ -4,7 +4,7 @@ use Rattle.room.proofs.Alike.{Alike, Left, answers, refuses, strikes}
 use Rattle.room.proofs.Choosing.{Narrow, choose-grow, isFull, slotted, vacant-named}
 use Rattle.room.proofs.Grow.{Slotted, edit-grow, editAt-grow, find-grow, grow, shape, shape-edit, shape-editAt}
 use Rattle.room.specs.Room.{struck}
-use Rattle.rules.specs.Papers.{done, into}
+use Rattle.rules.specs.Papers.{done, through}
 use Rattle.store.proofs.Chosen.{Open, choose-open}
 use Rattle.store.specs.Calls.{addIn, deleteIn, place}
 use Rattle.lookup.specs.Calls.{hasIn, ifHeld, ifNamed, lenIn, packetIn, readIn}
@@ -44,14 +44,14 @@ module _ (ns ks : List ℕ) (ps : List Pool) (shaped : shape ps ≡ ns) where
     unfolding lenIn
     len-grow = rw found
 
-    delete-by : (x : Found) (qs : List Pool) → ifHeld a x (λ n b. done [] (grow ks qs)) ≡ into (grow ks) (ifHeld a x (λ n b. done [] qs))
-    unfolding into ifHeld ifNamed
+    delete-by : (x : Found) (qs : List Pool) → ifHeld a x (λ n b. done [] (grow ks qs)) ≡ through (grow ks) (ifHeld a x (λ n b. done [] qs))
+    unfolding through ifHeld ifNamed
     delete-by noPool qs = refl
     delete-by noSlot qs = refl
     delete-by vacant qs = refl
     delete-by (held n b) qs = refl
 
-    pub delete-grow : deleteIn (grow ks ps) a ≡ into (grow ks) (deleteIn ps a)
+    pub delete-grow : deleteIn (grow ks ps) a ≡ through (grow ks) (deleteIn ps a)
     unfolding deleteIn
     delete-grow = rw (found, edit-grow wipe ks ps a here) (delete-by (find ps a) (edit wipe ps a))
 
@@ -75,7 +75,7 @@ module _ (ns ks : List ℕ) (ps : List Pool) (shaped : shape ps ≡ ns) where
     unfolding place struck
     places d tooLarge x′ f h = rw (f refl) (refuses _ _ _)
     places d (allTaken k) x′ f h = strikes _ _ _ _ refl
-    places d (P.into k i) x′ f h =
+    places d (P.through k i) x′ f h =
         let n = vacant-named ps k i (h .0) in
         rw (f refl, editAt-grow (fill d) ks ps k i n)
         (answers _ _ _ _ (shape-editAt (fill d) ps k i ∙ shaped, slotted ns k i narrow few (rw shaped at n)))

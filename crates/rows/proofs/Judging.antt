@@ -1,5 +1,4 @@
 -- Judging by counting faults: as long as there is none, what is left decides; once there is one, the table is out of order.
--- Assumes nothing.
 use Prim.Native.Nat.{_*_, _+_, _-_, _<_, _≤_, ℕ}
 use Rattle.rows.proofs.Order.{InRange, ordered-cons, range-true}
 use Rattle.rows.proofs.Rows.{drop-row, past-end}

@@ -1,5 +1,4 @@
 -- Entries in order of time: what order says of each, and of a part of them.
--- Assumes nothing.
 use Prim.Native.Nat.{_+_, _<_, _≤_, suc, zero, ℕ}
 use Rattle.rows.proofs.Rows.{getD-unpack, length-unpack}
 use Rattle.rows.specs.Entries.{Entry, row, time, unpack}

@@ -1,5 +1,4 @@
 -- Entries and the words that they are kept in: rows read, and entries packed.
--- Assumes nothing.
 use Prim.Native.Nat.{_*_, _+_, _-_, _<_, _≤_, max, suc, zero, ℕ}
 use Rattle.rows.specs.Entries.{Entry, pack, relaid, row, unpack, width, words}
 use lib.ListN.{drop, drop-of-length-le, getD, length, length-append, length-drop, length-replicate, replicate, take, take-append-drop}

@@ -1,5 +1,4 @@
 -- Where every test passes: of a list, and below a bound; and what a loop over the tests comes to.
--- Assumes nothing.
 use Prim.Native.Nat.{_<_, _≤_, suc, zero, ℕ}
 use Rattle.rules.specs.Tests.{allBelow, allOf}
 use mathlib.Core.Bool.{Bool, _&&_, false, true}

@@ -1,5 +1,4 @@
 -- Laws of `each`: its length, what stands at a place, and when two of them are the same.
--- Assumes nothing.
 use Prim.Native.Nat.{_+_, _<_, _≤_, suc, zero, ℕ}
 use lib.ListN.{getD, length, replicate}
 use mathlib.Core.List.{_∷_}

@@ -1,5 +1,4 @@
 -- The first index at which a test passes, and what a loop that searches for it comes to.
--- Assumes nothing.
 use Prim.Native.Nat.{_+_, _-_, _<_, _≤_, suc, zero, ℕ}
 use Rattle.rules.specs.Tests.{firstFrom}
 use mathlib.Core.Bool.{Bool, cond, false, true}

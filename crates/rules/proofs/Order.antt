@@ -1,7 +1,6 @@
 -- An order of refusals, read back: what came of a column of `unless` says which tests passed.
--- Assumes nothing.
 use Prim.Native.Nat.{ℕ}
-use Rattle.rules.specs.Papers.{Outcome, Paper, after, done, into, judgedBy, no, refused, says}
+use Rattle.rules.specs.Papers.{Outcome, Paper, after, done, through, judgedBy, no, refused, says}
 use Rattle.rules.specs.Tests.{unless}
 use mathlib.Core.Bool.{Bool, false, true}
 use mathlib.Core.List.{[]}
@@ -37,12 +36,12 @@ one-failed true false d o p n q = ap refused (sym q)
 one-failed true true false o p n q = ap refused (sym q)
 
 -- an outcome with what is left put through a function: it says the same, and leaves what the function makes of it
-pub into-says : {A B : Type 0} (f : A → B) (o : Outcome A) → says (into f o) ≡ says o
-unfolding into says
-into-says f (refused p) = refl
-into-says f (done vs x) = refl
+pub through-says : {A B : Type 0} (f : A → B) (o : Outcome A) → says (through f o) ≡ says o
+unfolding through says
+through-says f (refused p) = refl
+through-says f (done vs x) = refl
 
-pub into-after : {A B : Type 0} (f : A → B) (o : Outcome A) (b : B) → after (into f o) b (λ t. t) ≡ after o b f
-unfolding into after
-into-after f (refused p) b = refl
-into-after f (done vs x) b = refl
+pub through-after : {A B : Type 0} (f : A → B) (o : Outcome A) (b : B) → after (through f o) b (λ t. t) ≡ after o b f
+unfolding through after
+through-after f (refused p) b = refl
+through-after f (done vs x) b = refl

@@ -27,9 +27,9 @@ after (refused p) b f = b
 after (done vs x) b f = f x
 
 -- what is left, put through a function
-unfoldable pub into : {A B : Type 0} → (A → B) → Outcome A → Outcome B
-into f (refused p) = refused p
-into f (done vs x) = done vs (f x)
+unfoldable pub through : {A B : Type 0} → (A → B) → Outcome A → Outcome B
+through f (refused p) = refused p
+through f (done vs x) = done vs (f x)
 
 -- "Order: 1, 2, 3": by the tests of setup, buffers and state; and else what the call comes to
 unfoldable pub judgedBy : {A : Type 0} → Bool → Bool → Bool → Outcome A → Outcome A

@@ -1,5 +1,4 @@
 -- What a count answers, where none of 1 to 3 is given.
--- Assumes nothing.
 use Prim.Native.Nat.{ℕ}
 use mathlib.Core.List.{List, [], _∷_}
 use mathlib.Core.Path.{_≡_, ap, sym}

@@ -1,5 +1,4 @@
 -- What is known where none of 1 to 3 is given.
--- Assumes nothing.
 use Prim.Native.Nat.{_*_, _≤_, ℕ}
 use borrow.Author.Tests.{leb-true}
 use lib.ListN.{length}

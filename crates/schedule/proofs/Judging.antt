@@ -1,5 +1,4 @@
 -- What a verdict says: which tests passed, and what the call comes to.
--- Assumes nothing.
 use Prim.Native.Nat.{ℕ}
 use lib.ListN.{length}
 use mathlib.Core.Bool.{false, true}

@@ -1,5 +1,4 @@
 -- The promises, from what the code did to the record and the lists.
--- Assumes nothing.
 use Prim.Native.Nat.{_≤_, ℕ}
 use lib.ListN.{length}
 use mathlib.Core.List.{List}

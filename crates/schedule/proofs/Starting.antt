@@ -1,5 +1,4 @@
 -- What a fresh start comes to, by what its tests said.
--- Assumes nothing.
 use Prim.Native.Nat.{ℕ}
 use lib.ListN.{length}
 use mathlib.Core.Bool.{false, true}

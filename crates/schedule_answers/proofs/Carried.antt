@@ -1,5 +1,4 @@
 -- Refusal 13, and an answer that carries another, from the words that they hold.
--- Assumes nothing.
 use Prim.Native.Nat.{ℕ}
 use Rattle.deletions.specs.Answers.{lastPaper}
 use Rattle.face_words.specs.Inside.{wordsOf}

@@ -5,7 +5,7 @@ use Rattle.rules.proofs.Order.{refusal-keeps}
 use Rattle.rules.specs.Papers.{Outcome, says}
 use Rattle.schedule.specs.State.{State, recordOf}
 use Rattle.schedule.specs.declared.Setup.{Setup}
-use Rattle.scheduler.proofs.Numbers.{Numbered, clock-numbered, into-numbered, mark-numbered, own-add, own-by-id, own-count, own-delete, own-has, own-keeping, own-len, own-numbered, own-packet, own-read, own-reset, own-retrieve, own-stored, own-tick, own-unwrapped, own-window, own-wrapped}
+use Rattle.scheduler.proofs.Numbers.{Numbered, clock-numbered, through-numbered, mark-numbered, own-add, own-by-id, own-count, own-delete, own-has, own-keeping, own-len, own-numbered, own-packet, own-read, own-reset, own-retrieve, own-stored, own-tick, own-unwrapped, own-window, own-wrapped}
 use Rattle.scheduler.specs.Laws.{AnsweredOrRefused, EveryStepAnswers}
 use Rattle.scheduler.specs.Steps.{Request, Stepped, add, bufferOf, carried, count, delete, deleteById, deleteKeeping, deleteWindow, disable, enable, hasElementAt, insertStored, insertUnwrapped, insertWrapped, lenOfData, looked, modify, read, reset, retrieve, setClock, step, tick, ticked}
 use Rattle.tick.specs.Tick.{Logged}
@@ -37,20 +37,20 @@ module _ (su : Setup) (s : State) where
 
   pub told : (q : Request) → Told fine (bufferOf q) s (step su q s)
   unfolding step bufferOf looked ticked
-  told (add d) = carries fine s _ (into-numbered fine _ _ (own-numbered fine _ (own-add (su .store .spill) (s .pools) d)))
+  told (add d) = carries fine s _ (through-numbered fine _ _ (own-numbered fine _ (own-add (su .store .spill) (s .pools) d)))
   told (read a buf) =
       let h = own-numbered fine _ (own-read (s .pools) a buf) in
       record {
         demand = record { in-table = h .most; kept = λ above. (refl, refusal-keeps _ buf (λ b. b) above) };
         undamaged = h .undamaged;
       }
-  told (modify a d) = carries fine s _ (into-numbered fine _ _ (own-numbered fine _ (own-packet (s .pools) a)))
-  told (delete a) = carries fine s _ (into-numbered fine _ _ (own-numbered fine _ (own-delete (s .pools) a)))
+  told (modify a d) = carries fine s _ (through-numbered fine _ _ (own-numbered fine _ (own-packet (s .pools) a)))
+  told (delete a) = carries fine s _ (through-numbered fine _ _ (own-numbered fine _ (own-delete (s .pools) a)))
   told (hasElementAt a) = looks fine s _ (own-numbered fine _ (own-has (s .pools) a))
   told (lenOfData a) = looks fine s _ (own-numbered fine _ (own-len (s .pools) a))
-  told (setClock t) = carries fine s _ (into-numbered fine _ _ (clock-numbered t (recordOf s)))
-  told enable = carries fine s _ (into-numbered fine _ _ (mark-numbered true (recordOf s)))
-  told disable = carries fine s _ (into-numbered fine _ _ (mark-numbered _ (recordOf s)))
+  told (setClock t) = carries fine s _ (through-numbered fine _ _ (clock-numbered t (recordOf s)))
+  told enable = carries fine s _ (through-numbered fine _ _ (mark-numbered true (recordOf s)))
+  told disable = carries fine s _ (through-numbered fine _ _ (mark-numbered _ (recordOf s)))
   told count = looks fine s _ (own-numbered fine _ (own-count s))
   told (insertWrapped p) = carries fine s _ (own-numbered fine _ (own-wrapped su p s))
   told (insertUnwrapped t p) = carries fine s _ (own-numbered fine _ (own-unwrapped su t p s))

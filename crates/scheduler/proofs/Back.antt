@@ -1,5 +1,4 @@
 -- Each refusal of the schedule, and each answer of its calls, found again from its number and values.
--- Assumes nothing.
 use Prim.Native.Nat.{ℕ}
 use Rattle.deletions.specs.Answers.{clearedPaper, lastPaper}
 use Rattle.by_id.specs.Answers.{freedPaper, takenPaper}
@@ -31,7 +30,7 @@ use Rattle.schedule.specs.declared.Counted.the-variants as Co
 use Rattle.schedule.specs.declared.Counted.{Counted}
 use Rattle.schedule.specs.declared.Verdict.the-variants as Ve
 use Rattle.schedule.specs.declared.Verdict.{Verdict}
-use Rattle.scheduler.specs.Words.{Inside, Words}
+use Rattle.scheduler.specs.Words.{CarriesWords, Words}
 use Rattle.lookup.proofs.Numbers.{numbered as store-numbered}
 use Rattle.lookup.specs.Refusals.{paper as storePaper}
 use Rattle.slots.specs.declared.StoreIdError.the-variants.{InvalidPacketIdx, InvalidSubpool}
@@ -134,7 +133,7 @@ refusal-back answer refusal e w = rw (above-zero e, there-and-back e w)
 pub doneOf : List ℕ → Done
 doneOf vs = D.Ok
 
-pub done-back : (a : Done) → Inside D.Refused a → answerOf doneOf D.Refused (donePaper a) ≡ a
+pub done-back : (a : Done) → CarriesWords D.Refused a → answerOf doneOf D.Refused (donePaper a) ≡ a
 unfolding answerOf doneOf donePaper
 done-back D.Ok w = refl
 done-back (D.Refused e) w = refusal-back doneOf D.Refused e (w e refl)
@@ -142,7 +141,7 @@ done-back (D.Refused e) w = refusal-back doneOf D.Refused e (w e refl)
 pub verdictOf : List ℕ → Verdict
 verdictOf vs = Ve.Fine
 
-pub verdict-back : (a : Verdict) → Inside Ve.Refused a → answerOf verdictOf Ve.Refused (verdictPaper a) ≡ a
+pub verdict-back : (a : Verdict) → CarriesWords Ve.Refused a → answerOf verdictOf Ve.Refused (verdictPaper a) ≡ a
 unfolding answerOf verdictOf verdictPaper
 verdict-back Ve.Fine w = refl
 verdict-back (Ve.Refused e) w = refusal-back verdictOf Ve.Refused e (w e refl)
@@ -150,7 +149,7 @@ verdict-back (Ve.Refused e) w = refusal-back verdictOf Ve.Refused e (w e refl)
 pub countedOf : List ℕ → Counted
 countedOf vs = Co.Count (getD vs 0 0)
 
-pub counted-back : (a : Counted) → Inside Co.Refused a → answerOf countedOf Co.Refused (countedPaper a) ≡ a
+pub counted-back : (a : Counted) → CarriesWords Co.Refused a → answerOf countedOf Co.Refused (countedPaper a) ≡ a
 unfolding answerOf countedOf countedPaper
 counted-back (Co.Count n) w = refl
 counted-back (Co.Refused e) w = refusal-back countedOf Co.Refused e (w e refl)
@@ -158,7 +157,7 @@ counted-back (Co.Refused e) w = refusal-back countedOf Co.Refused e (w e refl)
 pub retrievedOf : List ℕ → Retrieved
 retrievedOf vs = R.Rows (record { first = getD vs 0 0; number = getD vs 1 0 })
 
-pub retrieved-back : (a : Retrieved) → Inside R.Refused a → answerOf retrievedOf R.Refused (retrievedPaper a) ≡ a
+pub retrieved-back : (a : Retrieved) → CarriesWords R.Refused a → answerOf retrievedOf R.Refused (retrievedPaper a) ≡ a
 unfolding answerOf retrievedOf retrievedPaper
 retrieved-back (R.Rows x) w = refl
 retrieved-back (R.Refused e) w = refusal-back retrievedOf R.Refused e (w e refl)
@@ -166,7 +165,7 @@ retrieved-back (R.Refused e) w = refusal-back retrievedOf R.Refused e (w e refl)
 pub insertedOf : List ℕ → InsertAnswer
 insertedOf vs = I.Inserted (record { addr = getD vs 0 0; «request_id» = getD vs 1 0 })
 
-pub inserted-back : (a : InsertAnswer) → Inside I.Refused a → answerOf insertedOf I.Refused (insertedPaper a) ≡ a
+pub inserted-back : (a : InsertAnswer) → CarriesWords I.Refused a → answerOf insertedOf I.Refused (insertedPaper a) ≡ a
 unfolding answerOf insertedOf insertedPaper
 inserted-back (I.Inserted x) w = refl
 inserted-back (I.Refused e) w = refusal-back insertedOf I.Refused e (w e refl)
@@ -185,7 +184,7 @@ tallyOf vs = record { deleted = getD vs 0 0; missing = getD vs 1 0; last = lastO
 pub clearedOf : List ℕ → ClearAnswer
 clearedOf vs = Cl.Done (tallyOf vs)
 
-pub cleared-back : (a : ClearAnswer) → Inside Cl.Refused a → answerOf clearedOf Cl.Refused (clearedPaper a) ≡ a
+pub cleared-back : (a : ClearAnswer) → CarriesWords Cl.Refused a → answerOf clearedOf Cl.Refused (clearedPaper a) ≡ a
 unfolding answerOf clearedOf clearedPaper tallyOf
 cleared-back (Cl.Done t) w = ap (λ (l : Last). Cl.Done (record { deleted = t .deleted; missing = t .missing; last = l })) (last-back (t .last))
 cleared-back (Cl.Refused e) w = refusal-back clearedOf Cl.Refused e (w e refl)
@@ -194,7 +193,7 @@ cleared-back (Cl.Refused e) w = refusal-back clearedOf Cl.Refused e (w e refl)
 pub takenOf : List ℕ → TakeAnswer
 takenOf vs = cond (eqb (getD vs 0 0) 0) Ta.NoMatch (Ta.Address (getD vs 1 0))
 
-pub taken-back : (a : TakeAnswer) → Inside Ta.Refused a → answerOf takenOf Ta.Refused (takenPaper a) ≡ a
+pub taken-back : (a : TakeAnswer) → CarriesWords Ta.Refused a → answerOf takenOf Ta.Refused (takenPaper a) ≡ a
 unfolding answerOf takenOf takenPaper
 taken-back Ta.NoMatch w = refl
 taken-back (Ta.Address a) w = refl
@@ -207,7 +206,7 @@ matchOf vs = cond (eqb (getD vs 1 0) 1) F.Deleted (F.Missing (storeBack (no (get
 pub freedOf : List ℕ → FreeAnswer
 freedOf vs = cond (eqb (getD vs 0 0) 0) F.NoMatch (matchOf vs)
 
-pub freed-back : (a : FreeAnswer) → Inside F.Refused a → answerOf freedOf F.Refused (freedPaper a) ≡ a
+pub freed-back : (a : FreeAnswer) → CarriesWords F.Refused a → answerOf freedOf F.Refused (freedPaper a) ≡ a
 unfolding answerOf freedOf freedPaper matchOf
 freed-back F.NoMatch w = refl
 freed-back F.Deleted w = refl
@@ -217,7 +216,7 @@ freed-back (F.Refused e) w = refusal-back freedOf F.Refused e (w e refl)
 pub tickedOf : List ℕ → TickAnswer
 tickedOf vs = T.HandedOut (record { m = getD vs 0 0; remain = getD vs 1 0 })
 
-pub ticked-back : (a : TickAnswer) → Inside T.Refused a → answerOf tickedOf T.Refused (tickPaper a) ≡ a
+pub ticked-back : (a : TickAnswer) → CarriesWords T.Refused a → answerOf tickedOf T.Refused (tickPaper a) ≡ a
 unfolding answerOf tickedOf tickPaper
 ticked-back (T.HandedOut h) w = refl
 ticked-back (T.Refused e) w = refusal-back tickedOf T.Refused e (w e refl)

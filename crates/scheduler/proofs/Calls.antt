@@ -1,5 +1,5 @@
 -- What each call makes of a state that fits: a refusal, or a state that fits.
--- Assumes nothing.
+use Rattle.rules.proofs.Cases.{either}
 use Prim.Native.Nat.{_<_, _≤_, suc, zero-le, ℕ}
 use Rattle.deletions.specs.Deleting.{Swept, clearIn, deleteWindowIn, resetIn, sweep, swept, unswept}
 use Rattle.by_id.specs.ById.{deleteByIdIn, deleteKeepingIn, freed, takeIn}
@@ -14,7 +14,7 @@ use Rattle.packet.specs.declared.Reading.the-variants.{Packet, Unreadable}
 use Rattle.packet.specs.declared.Reading.{Reading}
 use Rattle.record.specs.Record.{clockIn, markIn, timesInRange, withClock, withMark}
 use Rattle.rules.proofs.All.{and-left, and-right}
-use Rattle.rules.specs.Papers.{Outcome, after, done, into, no, refused}
+use Rattle.rules.specs.Papers.{Outcome, after, done, through, no, refused}
 use Rattle.rules.specs.Tests.{unless}
 use Rattle.schedule.specs.Starting.{startIn}
 use Rattle.schedule.specs.State.{State, recordOf, withEntries, withPools}
@@ -61,9 +61,7 @@ after-gives su s (refused p) f = tt
 after-gives su s (done vs t) f = f
 
 unless-gives : (su : Setup) (b : Bool) (x y : Outcome State) → Gives su x → (b ≡ true → Gives su y) → Gives su (unless b x y)
-unfolding unless
-unless-gives su true x y g h = h refl
-unless-gives su false x y g h = g
+unless-gives su b x y g h = either (Gives su) b y x h (λ e. g)
 
 -- the same but for the subpools, or the entries
 pub with-pools : (su : Setup) (s : State) (ps : List Pool) → Fits su s → PoolsFit (su .store) 0 ps → Fits su (withPools ps s)
@@ -76,7 +74,7 @@ with-entries su s es f k n = record { pools = f .pools; kept = k; few = n; clock
 
 module _ (su : Setup) (s : State) (f : Fits su s) where
   pools-give : (o : Outcome (List Pool)) → PoolsFit (su .store) 0 (after o (s .pools) (λ ps. ps)) → Gives su (ofPools s o)
-  unfolding into after
+  unfolding through after
   pools-give (refused p) h = tt
   pools-give (done vs ps) h = with-pools su s ps f h
 
@@ -87,8 +85,8 @@ module _ (su : Setup) (s : State) (f : Fits su s) where
   delete-gives a = pools-give _ (delete-fits (su .store) (s .pools) (f .pools) a)
 
   -- what is written through `modify`
-  pub modify-gives : (a : ℕ) (d : List ℕ) (o : Outcome (List ℕ)) → Gives su (into (λ b. withPools (edit (rewrite d) (s .pools) a) s) o)
-  unfolding into
+  pub modify-gives : (a : ℕ) (d : List ℕ) (o : Outcome (List ℕ)) → Gives su (through (λ b. withPools (edit (rewrite d) (s .pools) a) s) o)
+  unfolding through
   modify-gives a d (refused p) = tt
   modify-gives a d (done vs b) = with-pools su s _ f (rewrite-fits (su .store) (s .pools) (f .pools) a d)
 
@@ -119,7 +117,7 @@ mark-timed on r = go (timesInRange r)
 
 pub record-gives : (su : Setup) (s : State) → Fits su s → (o : Outcome Record) → StaysTimed (recordOf s) (after o (recordOf s) (λ x. x))
     → Gives su (ofRecord s o)
-unfolding into after
+unfolding through after
 record-gives su s f (refused p) h = tt
 record-gives su s f (done vs x) h =
     let k = h .in-range (rw (f .clock) (f .margin)) in

@@ -1,6 +1,5 @@
 -- Repeated ticks as requests: with limit k at least 1, nothing between them and room for k records of the largest slot size, no tick is
 -- refused, and within d / k of them, rounded rounded-up, all d due entries are handed out.
--- Assumes nothing.
 use Prim.Native.Nat.{_*_, _+_, _-_, _≤_, min, suc, zero, ℕ}
 use Rattle.record.specs.declared.Record.{Record}
 use Rattle.rules.specs.Papers.{after, says}

@@ -1,5 +1,4 @@
 -- Subpools that fit the setup, laid out as the two lent lists, are read back as they were; and what is read from sound lists fits.
--- Assumes nothing.
 use Prim.Native.Nat.{_*_, _+_, _<_, _≤_, suc, zero, ℕ}
 use Rattle.rules.proofs.All.{all-at, all-each}
 use Rattle.store_laws.specs.Fits.{PoolFits, PoolsFit, SlotFits, SlotsFit}

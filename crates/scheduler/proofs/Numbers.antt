@@ -1,4 +1,5 @@
 -- The numbers that each call gives of its own, beside 1 to 3 that are judged first: from 4 to 20.
+use Rattle.rules.proofs.Cases.{clash}
 use Prim.Native.Nat.{_≤_, ℕ}
 use Rattle.deletions.specs.Deleting.{clearIn, deleteWindowIn, resetIn}
 use Rattle.by_id.specs.ById.{deleteByIdIn, deleteKeepingIn, freed, takeIn}
@@ -12,8 +13,8 @@ use Rattle.packet.specs.declared.Reading.the-variants.{Packet, Unreadable}
 use Rattle.packet.specs.declared.Reading.{Reading}
 use Rattle.record.specs.Record.{clockIn, markIn, timesInRange}
 use Rattle.record.specs.declared.Record.{Record}
-use Rattle.rules.proofs.Order.{into-says}
-use Rattle.rules.specs.Papers.{Outcome, Paper, done, into, judgedBy, no, refused, says}
+use Rattle.rules.proofs.Order.{through-says}
+use Rattle.rules.specs.Papers.{Outcome, Paper, done, through, judgedBy, no, refused, says}
 use Rattle.rules.specs.Tests.{unless}
 use Rattle.schedule.specs.Counting.{countIn}
 use Rattle.schedule.specs.State.{State, withPools}
@@ -63,8 +64,8 @@ own-none (done vs x) h n l m e = omega arith
 pub own-numbered : {A : Type 0} (fine : Bool) (o : Outcome A) → Own o → Numbered fine (says o)
 own-numbered fine o h = record { most = own-most o h; undamaged = λ e. own-none o h }
 
-pub into-numbered : {A B : Type 0} (fine : Bool) (f : A → B) (o : Outcome A) → Numbered fine (says o) → Numbered fine (says (into f o))
-into-numbered fine f o h = rw (into-says f o) h
+pub through-numbered : {A B : Type 0} (fine : Bool) (f : A → B) (o : Outcome A) → Numbered fine (says o) → Numbered fine (says (through f o))
+through-numbered fine f o h = rw (through-says f o) h
 
 pub own-unless : {A : Type 0} (b : Bool) (bad o : Outcome A) → Own bad → Own o → Own (unless b bad o)
 unfolding unless
@@ -207,10 +208,7 @@ own-tick limit del log s =
 times-numbered : (fine : Bool) (o : Outcome Record) → Own o → Numbered fine (says (unless fine (refused (no 3 [])) o))
 unfolding unless says
 times-numbered true o h = own-numbered true o h
-times-numbered false o h = record { most = omega arith; undamaged = λ e. clash e }
-  where
-    clash : {X : Type 0} → false ≡ true → X
-    clash e = let z : _≡_ {A = ℕ} 0 1 = cc in absurd (omega arith)
+times-numbered false o h = record { most = omega arith; undamaged = λ e. clash false e refl }
 
 pub clock-numbered : (t : UnixTime) (r : Record) → Numbered (timesInRange r) (says (clockIn t r))
 unfolding clockIn

@@ -25,7 +25,7 @@ use Rattle.schedule.specs.declared.Setup.{Setup}
 use Rattle.schedule.specs.declared.Verdict.the-variants as Ve
 use Rattle.scheduler.proofs.OneToOne.{OneToOne, one-cleared, one-counted, one-done, one-freed, one-inserted, one-retrieved, one-taken, one-verdict}
 use Rattle.scheduler.specs.Laws.{Same}
-use Rattle.scheduler.specs.Words.{Inside}
+use Rattle.scheduler.specs.Words.{CarriesWords}
 use mathlib.Core.List.{List}
 use mathlib.Core.Path.{_∙_, _≡_, sym}
 
@@ -55,7 +55,7 @@ module _ (su : Setup) (r : Record) (st le ro : List ℕ) (p q : Paper) (r₁ r�
 module _ (su : Setup) (r : Record) (st le ro : List ℕ) (k : ℕ) (o : Outcome State) (r₁ r₂ : Record) (st₁ le₁ ro₁ st₂ le₂ ro₂ : List ℕ) where
   abbrev OneAnswer : {A : Type 0} → (A → Paper) → (ScheduleRefusal → A) → Type 0
   OneAnswer {A} told refusal =
-      (a b : A) → Inside refusal a → Inside refusal b → WritesOver k su r st le ro o (told a) r₁ st₁ le₁ ro₁
+      (a b : A) → CarriesWords refusal a → CarriesWords refusal b → WritesOver k su r st le ro o (told a) r₁ st₁ le₁ ro₁
       → WritesOver k su r st le ro o (told b) r₂ st₂ le₂ ro₂ → (a ≡ b) × Same r₂ r₁ st₂ st₁ le₂ le₁ ro₂ ro₁
 
   by-answer : {A : Type 0} (told : A → Paper) (refusal : ScheduleRefusal → A) → OneToOne told refusal → OneAnswer told refusal
@@ -84,7 +84,7 @@ module _ (su : Setup) (r : Record) (st le ro : List ℕ) (k : ℕ) (o : Outcome 
 -- the calls that only look: count, retrieval, judging
 module _ {A : Type 0} (o : Outcome A) where
   abbrev OneSaid : {B : Type 0} → (B → Paper) → (ScheduleRefusal → B) → Type 0
-  OneSaid {B} told refusal = (a b : B) → Inside refusal a → Inside refusal b → told a ≡ says o → told b ≡ says o → a ≡ b
+  OneSaid {B} told refusal = (a b : B) → CarriesWords refusal a → CarriesWords refusal b → told a ≡ says o → told b ≡ says o → a ≡ b
 
   pub one-count : OneSaid countedPaper Co.Refused
   one-count a b i j w v = one-counted a b i j (w ∙ sym v)
@@ -96,6 +96,6 @@ module _ {A : Type 0} (o : Outcome A) where
   one-judge a b i j w v = one-verdict a b i j (w ∙ sym v)
 
 -- setting the clock, enable, disable, in place or by value
-pub one-change : (o : Outcome Record) (r r₁ r₂ : Record) (a b : Done) → Inside D.Refused a → Inside D.Refused b
+pub one-change : (o : Outcome Record) (r r₁ r₂ : Record) (a b : Done) → CarriesWords D.Refused a → CarriesWords D.Refused b
     → donePaper a ≡ says o → r₁ ≡ after o r (λ x. x) → donePaper b ≡ says o → r₂ ≡ after o r (λ x. x) → (a ≡ b) × (r₁ ≡ r₂)
 one-change o r r₁ r₂ a b i j w m v n = (one-done a b i j (w ∙ sym v), m ∙ sym n)

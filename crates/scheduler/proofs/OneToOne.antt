@@ -18,7 +18,7 @@ use Rattle.schedule.specs.Answers.{countedPaper, verdictPaper}
 use Rattle.schedule.specs.declared.Counted.the-variants as Co
 use Rattle.schedule.specs.declared.Verdict.the-variants as Ve
 use Rattle.scheduler.proofs.Back.{answerOf, back, cleared-back, clearedOf, counted-back, countedOf, done-back, doneOf, freed-back, freedOf, inserted-back, insertedOf, retrieved-back, retrievedOf, taken-back, takenOf, there-and-back, ticked-back, tickedOf, verdict-back, verdictOf}
-use Rattle.scheduler.specs.Words.{Inside, Words}
+use Rattle.scheduler.specs.Words.{CarriesWords, Words}
 use Rattle.tick.specs.declared.TickAnswer.the-variants as T
 use mathlib.Core.List.{List}
 use mathlib.Core.Path.{_∙_, _≡_, ap, sym}
@@ -28,10 +28,10 @@ one-refusal e d w v q = sym (there-and-back e w) ∙ ap back q ∙ there-and-bac
 
 -- two answers of one number and values are equal, where the refusals in them carry words
 abbrev pub OneToOne : {A : Type 0} → (A → Paper) → (ScheduleRefusal → A) → Type 0
-OneToOne {A} told refusal = (a b : A) → Inside refusal a → Inside refusal b → told a ≡ told b → a ≡ b
+OneToOne {A} told refusal = (a b : A) → CarriesWords refusal a → CarriesWords refusal b → told a ≡ told b → a ≡ b
 
 one-by : {A : Type 0} (told : A → Paper) (refusal : ScheduleRefusal → A) (answer : List ℕ → A)
-    → ((a : A) → Inside refusal a → answerOf answer refusal (told a) ≡ a) → OneToOne told refusal
+    → ((a : A) → CarriesWords refusal a → answerOf answer refusal (told a) ≡ a) → OneToOne told refusal
 one-by told refusal answer h a b w v q = sym (h a w) ∙ ap (answerOf answer refusal) q ∙ h b v
 
 -- a stored insertion, a fresh start, enable, disable, setting the clock

@@ -1,9 +1,10 @@
 -- The laws of the scheduler for the tick: it keeps a fitting state so, does what the step of its request says, keeps everything where
 -- it refuses, and has one outcome only.
+use Rattle.rules.proofs.Cases.{either}
 use Prim.Native.Nat.{ℕ}
 use Rattle.record.specs.declared.Record.{Record}
-use Rattle.rules.proofs.Order.{into-after, into-says, refusal-keeps}
-use Rattle.rules.specs.Papers.{Outcome, Paper, into, refused, says}
+use Rattle.rules.proofs.Order.{through-after, through-says, refusal-keeps}
+use Rattle.rules.specs.Papers.{Outcome, Paper, through, refused, says}
 use Rattle.rules.specs.Tests.{unless}
 use Rattle.schedule.proofs.Promises.{judging-fine}
 use Rattle.schedule.specs.Judge.{Sound, judging}
@@ -19,7 +20,7 @@ use Rattle.scheduler.specs.Fits.{Fits, Gives}
 use Rattle.store_laws.specs.Fits.{PoolsFit}
 use Rattle.scheduler.specs.Laws.{Same, StepsAs}
 use Rattle.scheduler.specs.Steps.{step, tick, ticked}
-use Rattle.scheduler.specs.Words.{Inside}
+use Rattle.scheduler.specs.Words.{CarriesWords}
 use Rattle.slots.specs.Pools.{Pool}
 use Rattle.layout.specs.declared.Setup.{Setup as StoreSetup}
 use Rattle.rows.proofs.Order.{drop-ordered}
@@ -56,7 +57,7 @@ module _ (su : Setup) (s : State) (f : Fits su s) (limit : ℕ) (del : Bool) (lo
   out = handout (leave del) (always (s .enabled)) (instant (s .clock)) limit 8 (usable log) (s .entries) (s .pools)
 
   hands-gives : Gives su (left (handedOut log s out))
-  unfolding handedOut into out
+  unfolding handedOut through out
   hands-gives =
       let x = splits (leave del) (always (s .enabled)) (instant (s .clock)) limit 8 (usable log) (s .entries) (s .pools) in
       let n = length (out .records) in
@@ -66,9 +67,8 @@ module _ (su : Setup) (s : State) (f : Fits su s) (limit : ℕ) (del : Bool) (lo
       (omega (arith, f .few, ap length (x .left-is), length-drop n (s .entries)))
 
   unless-left : (b : Bool) (p : Paper) (o : Outcome Logged) → Gives su (left o) → Gives su (left (unless b (refused p) o))
-  unfolding unless into
-  unless-left true p o g = g
-  unless-left false p o g = tt
+  unfolding through
+  unless-left b p o g = either (λ (x : Outcome Logged). Gives su (left x)) b o (refused p) (λ e. g) (λ e. tt)
 
   pub tick-gives : Gives su (left (tickIn limit del log s))
   unfolding tickIn out
@@ -89,8 +89,8 @@ module _ (su : Setup) (r : Record) (st le ro lo : List ℕ) (limit : ℕ) (del :
       let g = tick-gives su x (sound-fits su r st le ro s) limit del lo in (
         record {
           sound = outcome-sound su r st le ro s p r′ st′ le′ ro′ (left o) g (v .tables);
-          answer = v .tables .answer ∙ into-says (λ (y : Logged). y .state) o;
-          state = outcome-state su r st le ro s p r′ st′ le′ ro′ (left o) g (v .tables) ∙ into-after (λ (y : Logged). y .state) o x;
+          answer = v .tables .answer ∙ through-says (λ (y : Logged). y .state) o;
+          state = outcome-state su r st le ro s p r′ st′ le′ ro′ (left o) g (v .tables) ∙ through-after (λ (y : Logged). y .state) o x;
         },
         v .log,
       )
@@ -99,7 +99,7 @@ module _ (su : Setup) (r : Record) (st le ro lo : List ℕ) (limit : ℕ) (del :
   pub tick-keeps : (p .number ≡ 0 → ⊥) → Same r r′ st st′ le le′ ro ro′ × (lo′ ≡ lo)
   tick-keeps above =
       let o : Outcome Logged = judging su r st le ro (tickIn limit del lo) in
-      let e : p ≡ says o = w .tables .answer ∙ into-says (λ (y : Logged). y .state) o in (
+      let e : p ≡ says o = w .tables .answer ∙ through-says (λ (y : Logged). y .state) o in (
         call-keeps su r st le ro p r′ st′ le′ ro′ above (left o) (w .tables),
         w .log ∙ refusal-keeps o lo (λ (y : Logged). y .log) (λ z. above (ap (λ (y : Paper). y .number) e ∙ z)),
       )
@@ -115,7 +115,7 @@ module _ (su : Setup) (r : Record) (st le ro lo : List ℕ) (limit : ℕ) (del :
 
 -- and by the answers themselves
 pub one-tick-answer : (su : Setup) (r : Record) (st le ro lo : List ℕ) (limit : ℕ) (del : Bool) (a b : TickAnswer)
-    → Inside T.Refused a → Inside T.Refused b → (r₁ r₂ : Record) (st₁ le₁ ro₁ lo₁ st₂ le₂ ro₂ lo₂ : List ℕ)
+    → CarriesWords T.Refused a → CarriesWords T.Refused b → (r₁ r₂ : Record) (st₁ le₁ ro₁ lo₁ st₂ le₂ ro₂ lo₂ : List ℕ)
     → Ticks su r st le ro lo (judging su r st le ro (tickIn limit del lo)) (tickPaper a) r₁ st₁ le₁ ro₁ lo₁
     → Ticks su r st le ro lo (judging su r st le ro (tickIn limit del lo)) (tickPaper b) r₂ st₂ le₂ ro₂ lo₂
     → (a ≡ b) × Same r₂ r₁ st₂ st₁ le₂ le₁ ro₂ ro₁ × (lo₁ ≡ lo₂)

@@ -1,5 +1,5 @@
 -- A stamp that is read from bytes has a time in range.
--- Assumes nothing.
+use Rattle.rules.proofs.Cases.{either}
 use Prim.Native.Nat.{_*_, _+_, _-_, _<_, _^_, _≤_, suc, zero, ℕ}
 use Rattle.packet.specs.Packet.{dataFrom, dataOf, shortest}
 use Rattle.packet.specs.declared.Reading.the-variants.{Packet, Unreadable}
@@ -18,7 +18,7 @@ use lib.ListN.{drop, getD, take}
 use lib.Seq.{getD-drop}
 use mathlib.Core.Bool.{Bool, cond, false, true}
 use mathlib.Core.List.{List, [], _∷_}
-use mathlib.Core.Path.{_≡_, refl}
+use mathlib.Core.Path.{_≡_}
 use native.Mathlib.Numerals.{add-one}
 use native.Mathlib.Omega.{arith}
 
@@ -43,9 +43,7 @@ number-below s h zero at = omega arith
 number-below s h (suc k) at = rw (← (add-one k)) (byte-more k (number k at s) (getD s (at + k) 0) (number-below s h k at) (h (at + k)))
 
 unless-timely : (b : Bool) (x : Stamp) → (b ≡ true → Timely x) → Timely (unless b Refused x)
-unfolding unless
-unless-timely true x h = h refl
-unless-timely false x h = tt
+unless-timely b x h = either Timely b x Refused h (λ e. tt)
 
 width-timely : (w : ℕ) (s : List ℕ) → w ≤ 3 → Bytes s → Timely (stampAt w s)
 unfolding stampAt

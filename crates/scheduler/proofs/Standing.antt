@@ -1,5 +1,4 @@
 -- Between record and lent lists and the states that they stand for: what is sound fits, and what fits is sound once laid out.
--- Assumes nothing.
 use Prim.Native.Nat.{_*_, _≤_, ℕ}
 use Rattle.record.specs.declared.Record.{Record}
 use Rattle.rules.proofs.All.{all-each, and-left, and-right, each-all}

@@ -3,7 +3,7 @@
 use Prim.Native.Nat.{ℕ}
 use Rattle.record.specs.declared.Record.{Record}
 use Rattle.rules.proofs.All.{all-each, each-all}
-use Rattle.rules.proofs.Order.{into-after}
+use Rattle.rules.proofs.Order.{through-after}
 use Rattle.rules.specs.Papers.{Outcome, Paper, after, done, no, refused, says}
 use Rattle.rules.specs.Tests.{unless}
 use Rattle.schedule.proofs.Promises.{judging-fine, writes}
@@ -52,7 +52,7 @@ step-stays su reset s o f = gives-after su s _ f (reset-gives su s f)
 step-stays su (deleteKeeping id) s o f = gives-after su s _ f (keeping-gives su s f id)
 step-stays su (deleteById id) s o f = gives-after su s _ f (by-id-gives su s f id)
 step-stays su (tick limit del log) s o f =
-    rw (into-after (λ (x : Logged). x .state) (tickIn limit del log s) s) at
+    rw (through-after (λ (x : Logged). x .state) (tickIn limit del log s) s) at
     (gives-after su s (left (tickIn limit del log s)) f (tick-gives su s f limit del log))
 
 pub run-stays : (su : Setup) (qs : List Request) (s : State) → AllOfBytes qs → Fits su s → Fits su (run su qs s .state)

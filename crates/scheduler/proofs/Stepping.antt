@@ -2,8 +2,8 @@
 use Prim.Native.Nat.{ℕ}
 use Rattle.record.specs.Record.{clockIn, markIn}
 use Rattle.record.specs.declared.Record.{Record}
-use Rattle.rules.proofs.Order.{into-says}
-use Rattle.rules.specs.Papers.{Outcome, Paper, after, done, into, no, refused, says}
+use Rattle.rules.proofs.Order.{through-says}
+use Rattle.rules.specs.Papers.{Outcome, Paper, after, done, through, no, refused, says}
 use Rattle.schedule.proofs.Facts.{facts}
 use Rattle.schedule.proofs.Promises.{judging-fine, record-same}
 use Rattle.schedule.specs.Judge.{Sound, judging}
@@ -55,7 +55,7 @@ call-steps su r st le ro s p r′ st′ le′ ro′ q o call e w =
 module _ (su : Setup) (r : Record) (st le ro : List ℕ) (s : Sound su r st le ro) (p : Paper) (r′ : Record) where
   record-after : (o : Outcome Record) → after (ofRecord (stateOf su r st le ro) o) (stateOf su r st le ro) (λ t. t)
       ≡ withRecord (stateOf su r st le ro) (after o r (λ x. x))
-  unfolding into after stateOf
+  unfolding through after stateOf
   record-after (refused q) = refl
   record-after (done vs x) = refl
 
@@ -76,7 +76,7 @@ module _ (su : Setup) (r : Record) (st le ro : List ℕ) (s : Sound su r st le r
   record-step q o e k a b =
       record {
         sound = rw b (record-stays su r _ st le ro s k);
-        answer = rw e (a ∙ sym (into-says (withRecord (stateOf su r st le ro)) o));
+        answer = rw e (a ∙ sym (through-says (withRecord (stateOf su r st le ro)) o));
         state = rw (e, b) (record-state (after o r (λ x. x)) (k .same-count) ∙ sym (record-after o));
       }
 
@@ -96,7 +96,7 @@ module _ (su : Setup) (r : Record) (st le ro : List ℕ) (s : Sound su r st le r
 -- ---- the store's own calls, on the scheduler's store
 
 pools-after : (s : State) (o : Outcome (List Pool)) → after (ofPools s o) s (λ t. t) ≡ withPools (after o (s .pools) (λ ps. ps)) s
-unfolding into after
+unfolding through after
 pools-after s (refused q) = refl
 pools-after s (done vs ps) = refl
 
@@ -115,7 +115,7 @@ module _ (su : Setup) (r : Record) (st le ro : List ℕ) (s : Sound su r st le r
   store-step q o e k a l =
       record {
         sound = store-stays su r st le ro st′ le′ s k;
-        answer = rw e (a ∙ sym (into-says (λ ps. withPools ps (stateOf su r st le ro)) o));
+        answer = rw e (a ∙ sym (through-says (λ ps. withPools ps (stateOf su r st le ro)) o));
         state = rw e (pools-state _ l ∙ sym (pools-after (stateOf su r st le ro) o));
       }
 
@@ -142,7 +142,7 @@ module _ (su : Setup) (r : Record) (st le ro : List ℕ) (s : Sound su r st le r
 pub modify-steps : (su : Setup) (r : Record) (st le ro : List ℕ) → Sound su r st le ro → (a n : ℕ) (raw ys : List ℕ)
     → find (view (su .store) st le) a ≡ held n raw → length ys ≡ n
     → StepsAs su r st le ro (modify a ys) (no 0 (n ∷ [])) r (put (packetStart (su .store) a) n ys st) le ro
-unfolding step carried stateOf packetIn ifHeld ifNamed into says after
+unfolding step carried stateOf packetIn ifHeld ifNamed through says after
 modify-steps su r st le ro s a n raw ys q e =
     let k = facts s .store in
     let l = modify-leaves (su .store) st le k a n raw ys q e in

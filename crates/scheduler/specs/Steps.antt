@@ -11,7 +11,7 @@ use Rattle.gate.specs.Entering.{insertStoredIn}
 use Rattle.wrapped.specs.Wrapped.{insertWrappedIn}
 use Rattle.record.specs.Record.{clockIn, markIn}
 use Rattle.record.specs.declared.Record.{Record}
-use Rattle.rules.specs.Papers.{Outcome, Paper, after, into, says}
+use Rattle.rules.specs.Papers.{Outcome, Paper, after, through, says}
 use Rattle.schedule.specs.Counting.{countIn}
 use Rattle.schedule.specs.State.{State, recordOf, withPools}
 use Rattle.schedule.specs.declared.Setup.{Setup}
@@ -89,15 +89,15 @@ abbrev pub withRecord : State → Record → State
 withRecord s r = record { pools = s .pools; entries = s .entries; clock = r .clock; margin = r .margin; enabled = r .enabled }
 
 abbrev pub ofPools : State → Outcome (List Pool) → Outcome State
-ofPools s o = into (λ ps. withPools ps s) o
+ofPools s o = through (λ ps. withPools ps s) o
 
 abbrev pub ofRecord : State → Outcome Record → Outcome State
-ofRecord s o = into (withRecord s) o
+ofRecord s o = through (withRecord s) o
 
 unfoldable pub step : Setup → Request → State → Stepped
 step su (add d) s = carried s (ofPools s (addIn (su .store .spill) (s .pools) d))
 step su (read a buf) s = looked s (readIn (s .pools) a buf) (after (readIn (s .pools) a buf) buf (λ b. b))
-step su (modify a d) s = carried s (into (λ b. withPools (edit (rewrite d) (s .pools) a) s) (packetIn (s .pools) a))
+step su (modify a d) s = carried s (through (λ b. withPools (edit (rewrite d) (s .pools) a) s) (packetIn (s .pools) a))
 step su (delete a) s = carried s (ofPools s (deleteIn (s .pools) a))
 step su (hasElementAt a) s = looked s (hasIn (s .pools) a) []
 step su (lenOfData a) s = looked s (lenIn (s .pools) a) []

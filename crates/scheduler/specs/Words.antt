@@ -14,5 +14,5 @@ Words e =
     → SFits w64 (clock .secs) × SFits w64 (release .secs)
 
 -- the same of the refusal inside an answer, where the answer is one
-abbrev pub Inside : {A : Type 0} → (ScheduleRefusal → A) → A → Type 0
-Inside refusal a = (e : ScheduleRefusal) → a ≡ refusal e → Words e
+abbrev pub CarriesWords : {A : Type 0} → (ScheduleRefusal → A) → A → Type 0
+CarriesWords refusal a = (e : ScheduleRefusal) → a ≡ refusal e → Words e

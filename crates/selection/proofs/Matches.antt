@@ -1,5 +1,4 @@
 -- Rows by their request ID: the searches, row by row, and what they find.
--- Assumes nothing.
 use Prim.Native.Nat.{_+_, _<_, _≤_, suc, zero, ℕ}
 use Rattle.rows.proofs.Order.{ordered-row}
 use Rattle.rows.proofs.Rows.{drop-row, getD-unpack, length-unpack, past-end}

@@ -1,5 +1,4 @@
 -- Spans of an ordered list, from one number up to another, the second outside: an unbroken range of the entries.
--- Assumes nothing.
 use Prim.Native.Nat.{_-_, _<_, _≤_, suc, ℕ}
 use Rattle.rows.proofs.Order.{InRange, ordered-cons}
 use Rattle.rows.specs.Entries.{Entry, time}

@@ -1,5 +1,4 @@
 -- What the victim is: it has the ID, no entry with the ID is earlier, and of those at its time it is the last.
--- Assumes nothing.
 use Prim.Native.Nat.{_+_, _-_, _<_, _≤_, suc, zero, ℕ}
 use Rattle.rows.proofs.Order.{ordered-pair}
 use Rattle.rows.specs.Entries.{Entry, time}

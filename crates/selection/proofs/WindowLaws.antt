@@ -1,5 +1,4 @@
 -- The rows of a window stand together in an ordered table: each window is a span.
--- Assumes nothing.
 use Prim.Native.Nat.{_*_, _+_, _-_, _<_, _≤_, suc, ℕ}
 use Rattle.rows.proofs.Order.{InRange, ordered-cons}
 use Rattle.rows.proofs.Rows.{length-unpack}

@@ -1,5 +1,4 @@
 -- The number and the answer's words, from an answer by value; and an answer that is too short.
--- Assumes nothing.
 use Prim.Native.Nat.{_<_, _≤_, ℕ}
 use Rattle.face_words.proofs.Eight.{padded-again}
 use Rattle.face_words.specs.Inside.{eight, wordsOf}

@@ -1,8 +1,7 @@
 -- Each promise of the C face allows one number, one answer and one set of tables; and a refusal changes nothing but the answer.
--- Assumes nothing.
 use Prim.Native.Nat.{ℕ}
 use Rattle.record.specs.declared.Record.{Record}
-use Rattle.rules.proofs.Order.{into-says, refusal-keeps}
+use Rattle.rules.proofs.Order.{through-says, refusal-keeps}
 use Rattle.rules.specs.Papers.{Outcome, says}
 use Rattle.schedule.specs.State.{State}
 use Rattle.slots.specs.Pools.{Pool}
@@ -58,5 +57,5 @@ module _ {sw : List ℕ} {k : ℕ} {o : Outcome Logged} {f : State → List ℕ}
   pub refused-tick-keeps-all : {r s l t g x : List ℕ} {n : ℕ} → TickFaces sw k o f ws st le ro lo an n r s l t g x → (n ≡ 0 → ⊥)
       → ((r ≡ ws) × (s ≡ st) × (l ≡ le) × (t ≡ ro)) × (g ≡ lo)
   refused-tick-keeps-all p h =
-      let u : says o .number ≡ 0 → ⊥ = λ e. h (p .tables .answer .number ∙ ap (λ v. v .number) (into-says _ o) ∙ e) in
+      let u : says o .number ≡ 0 → ⊥ = λ e. h (p .tables .answer .number ∙ ap (λ v. v .number) (through-says _ o) ∙ e) in
       (refusal-keeps-all (p .tables) h, p .log ∙ refusal-keeps o lo _ u)

@@ -1,5 +1,4 @@
 -- Where a packet's bytes lie, from the store's search.
--- Assumes nothing.
 use Prim.Native.Nat.{ℕ}
 use Rattle.rules.specs.Papers.{Outcome, Paper, done, no, refused, says}
 use Rattle.lookup.proofs.Judging.{judging-fine}

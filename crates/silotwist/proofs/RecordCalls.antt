@@ -1,5 +1,4 @@
 -- The calls that see the record alone, over words, from the record's own promises.
--- Assumes nothing.
 use Prim.Native.Nat.{_<_, _≤_, ℕ}
 use Rattle.record.specs.Record.{Changes, clockIn, markIn, withClock, withMark}
 use Rattle.record.specs.Refusals.{donePaper}

@@ -1,5 +1,4 @@
 -- Reset and fresh start over words: what they write of the record, and their promises.
--- Assumes nothing.
 use Prim.Native.Nat.{_≤_, ℕ}
 use Rattle.deletions.specs.Deleting.{clearIn, resetIn}
 use Rattle.record.specs.declared.Record.{Record}

@@ -1,5 +1,4 @@
 -- The scheduler's calls over words, from the scheduler's own promises.
--- Assumes nothing.
 use Prim.Native.Nat.{_<_, _≤_, ℕ}
 use Rattle.record.specs.Record.{timesInRange}
 use Rattle.record.specs.declared.Record.{Record}

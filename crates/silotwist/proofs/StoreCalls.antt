@@ -1,5 +1,4 @@
 -- The store's calls over words, from the store's own promises.
--- Assumes nothing.
 use Prim.Native.Nat.{_<_, _≤_, ℕ}
 use Rattle.rules.proofs.All.{and-left}
 use Rattle.rules.specs.Papers.{Outcome, Paper, after, judgedBy, no, refused, says}

@@ -1,8 +1,7 @@
 -- The release tick over words, from the tick's own promise.
--- Assumes nothing.
 use Prim.Native.Nat.{_<_, _≤_, ℕ}
 use Rattle.record.specs.declared.Record.{Record}
-use Rattle.rules.specs.Papers.{Outcome, Paper, after, into, judgedBy, refused}
+use Rattle.rules.specs.Papers.{Outcome, Paper, after, through, judgedBy, refused}
 use Rattle.rules.specs.Tests.{unless}
 use Rattle.schedule.specs.Judge.{buffersOk, judging, setupOk, stateOk}
 use Rattle.schedule.specs.State.{State}
@@ -26,7 +25,7 @@ use mathlib.Core.Path.{_∙_, _≡_, ap, refl, sym}
 
 -- the scheduler's part of an outcome, through an order of refusals
 left-unless : (b : Bool) (p : Paper) (o : Outcome Logged) → left (unless b (refused p) o) ≡ unless b (refused p) (left o)
-unfolding into unless
+unfolding through unless
 left-unless true p o = refl
 left-unless false p o = refl
 

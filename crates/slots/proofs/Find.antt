@@ -1,5 +1,4 @@
 -- Finding an address in the view, by the numbers of the lent lists.
--- Assumes nothing.
 use Prim.Native.Nat.{_+_, _<_, _≤_, suc, zero, ℕ}
 use Rattle.layout.specs.Layout.{rowsBefore, slotsAt}
 use Rattle.layout.specs.Limits.{storeFree}

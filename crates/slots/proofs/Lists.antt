@@ -1,5 +1,4 @@
 -- Laws of lists that the proofs cite: a part filled and a part written from the front.
--- Assumes nothing.
 use Prim.Native.Nat.{_+_, _-_, _<_, _≤_, suc, zero, ℕ}
 use Rattle.slots.specs.Pools.{over}
 use Rattle.slots.specs.View.{part, put}

@@ -1,5 +1,4 @@
 -- The cases of the searches: an address in the setup, and a free slot.
--- Assumes nothing.
 use Prim.Native.Nat.{_+_, _-_, _<_, _≤_, ℕ}
 use Rattle.address.specs.Address.{addressOf, poolOf, slotOf}
 use Rattle.layout.proofs.Cases.{SlotCase, has-slot, no-pool, no-slot, slot-case}

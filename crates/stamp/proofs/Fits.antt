@@ -1,5 +1,4 @@
 -- A stamp that was read lies within the bytes: what follows it is there to be cut out.
--- Assumes nothing.
 use Prim.Native.Nat.{_+_, _≤_, ℕ}
 use borrow.Author.Tests.{leb-true}
 use lib.Dec.{eqb}

@@ -1,5 +1,4 @@
 -- The seconds of a stamp: no step of the sum is too large for the machine, and the time is in range.
--- Assumes nothing.
 use Prim.Native.Nat.{_/_, _<_, _≤_, ℕ}
 use Rattle.stamp.specs.Stamp.{secsOf, timeAt}
 use Rattle.time.proofs.Size.{mag-add, mag-mul, mag-sub, small-ok}

@@ -1,5 +1,4 @@
 -- What is known where room was chosen, or refused.
--- Assumes nothing.
 use Prim.Native.Nat.{_*_, _+_, _<_, _≤_, suc, zero, ℕ}
 use Rattle.address.specs.Address.{addressOf}
 use Rattle.layout.proofs.Bounds.{bounds}

@@ -1,5 +1,4 @@
 -- The row of an address: two addresses of one row, and what the view finds by it.
--- Assumes nothing.
 use Prim.Native.Nat.{_+_, _<_, _≤_, ℕ}
 use Rattle.address.specs.Address.{poolOf, slotOf}
 use Rattle.layout.proofs.Bounds.{bounds}

@@ -1,5 +1,4 @@
 -- Each refusal, and an answer that carries one, found again from its number and values.
--- Assumes nothing.
 use Prim.Native.Nat.{ℕ}
 use Rattle.rules.specs.Papers.{Paper}
 use Rattle.lookup.specs.Refusals.{paper}

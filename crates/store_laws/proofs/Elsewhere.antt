@@ -1,5 +1,4 @@
 -- One slot after an edit of one slot: the same slot where it is another, and else what the edit makes of it.
--- Assumes nothing.
 use Prim.Native.Nat.{suc, zero, ℕ}
 use Rattle.rules.specs.Papers.{Paper, after, no, says}
 use Rattle.store.proofs.Chosen.{Open}

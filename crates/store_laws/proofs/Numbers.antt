@@ -1,5 +1,4 @@
 -- A refusal of `add` and of `delete` has a number, so the answer tells which outcome it is of.
--- Assumes nothing.
 use Prim.Native.Nat.{ℕ}
 use lib.ListN.{length}
 use mathlib.Core.Bool.{Bool}

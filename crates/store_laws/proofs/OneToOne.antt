@@ -1,5 +1,4 @@
 -- `paper` is one-to-one: number and values tell every refusal, and every answer of a call, apart.
--- Assumes nothing.
 use Rattle.store.specs.Refusals.{addedPaper, deletedPaper, startedPaper, verdictPaper}
 use Rattle.lookup.specs.Refusals.{lengthPaper, paper, presencePaper}
 use Rattle.lookup.proofs.Numbers.{numbered}

@@ -1,5 +1,4 @@
 -- What the lists stand for after a public call on a sound store: its promise in a judged call's form.
--- Assumes nothing.
 use Prim.Native.Nat.{ℕ}
 use Rattle.rules.specs.Papers.{Outcome, Paper, done, no, refused, says}
 use Rattle.rules.specs.Tests.{unless}

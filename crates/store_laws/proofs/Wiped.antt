@@ -1,5 +1,4 @@
 -- One slot wiped: what an address finds after it, there and elsewhere. A deletion leaves its slot wiped, whether or not a packet was there.
--- Assumes nothing.
 use Prim.Native.Nat.{suc, zero, ℕ}
 use Rattle.rules.specs.Papers.{after, done}
 use Rattle.address.specs.Address.{poolOf, slotOf}

@@ -1,5 +1,4 @@
 -- How many entries lie before a moment: in an ordered list these are all that do; and the search, row by row.
--- Assumes nothing.
 use Prim.Native.Nat.{_+_, _<_, _≤_, suc, zero, ℕ}
 use Rattle.rows.proofs.Order.{ordered-at, ordered-cons}
 use Rattle.rows.proofs.Rows.{drop-row, past-end}

@@ -1,5 +1,4 @@
 -- Order kept by an insertion and a removal, and the place of an inserted entry.
--- Assumes nothing.
 use Prim.Native.Nat.{_+_, _<_, _≤_, suc, zero, ℕ}
 use Rattle.rows.proofs.Order.{InRange, drop-ordered, ordered-cons, ordered-make}
 use Rattle.rows.specs.Entries.{Entry, relaid, time, unpack}

@@ -1,5 +1,4 @@
 -- Where an inserted entry stands: behind every entry that is not later, equal times in insertion order.
--- Assumes nothing.
 use Prim.Native.Nat.{_+_, _<_, _≤_, ℕ}
 use Rattle.rows.proofs.Order.{ordered-cons}
 use Rattle.rows.specs.Entries.{Entry, time}

@@ -1,5 +1,4 @@
 -- What the words hold after a change: the entries, zeros in the rows vacated, and behind those all as it was.
--- Assumes nothing.
 use Prim.Native.Nat.{_*_, _+_, _-_, _<_, _≤_, max, ℕ}
 use Rattle.rows.proofs.Rows.{entry≡, length-pack, relaid-at}
 use Rattle.rows.specs.Entries.{Entry, pack, relaid, row, width}

@@ -1,5 +1,4 @@
 -- A sound table stays sound: read back from the words that an insertion or a removal leaves.
--- Assumes nothing.
 use Prim.Native.Nat.{_+_, _-_, _≤_, ℕ}
 use Rattle.rows.proofs.Order.{InRange}
 use Rattle.rows.proofs.Rows.{length-relaid, length-unpack, past-end, unpack-relaid}

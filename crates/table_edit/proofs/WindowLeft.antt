@@ -1,5 +1,4 @@
 -- A window's entries removed: what is left is what the removal of its unbroken range of rows leaves.
--- Assumes nothing.
 use Prim.Native.Nat.{_-_, _<_, _≤_, suc, ℕ}
 use Rattle.rows.proofs.Order.{ordered-cons}
 use Rattle.rows.specs.Entries.{Entry, time}

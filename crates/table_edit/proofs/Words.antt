@@ -1,5 +1,4 @@
 -- Words moved and cleared within a list, one store a turn.
--- Assumes nothing.
 use Prim.Native.Nat.{_+_, _-_, _<_, _≤_, suc, ℕ}
 use Rattle.table_edit.specs.Inside.{cleared, moved}
 use lib.Dec.{T}

@@ -1,5 +1,4 @@
 -- Rows written by the leaves, as entries.
--- Assumes nothing.
 use Prim.Native.Nat.{_*_, _+_, _-_, _≤_, max, ℕ}
 use Rattle.rows.proofs.Rows.{length-unpack, pack-append, pack-drop, pack-take, relaid-at}
 use Rattle.rows.specs.Entries.{Entry, pack, relaid, unpack, width, words}

@@ -1,5 +1,4 @@
 -- Refusal 20: by the log's length, by the first record, and by what the code finds of it.
--- Assumes nothing.
 use Prim.Native.Nat.{_<_, _≤_, min, ℕ}
 use borrow.Author.Tests.{le-leb, le-ltb, lt-leb, lt-ltb, ltb-false, ltb-true}
 use lib.Dec.{leb, ltb}

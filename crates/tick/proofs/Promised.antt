@@ -1,12 +1,11 @@
 -- The public tick: judged, and then carried out.
--- Assumes nothing.
 use Prim.Native.Nat.{ℕ}
 use mathlib.Core.List.{List}
 use mathlib.Core.Path.{_≡_, refl}
 use Rattle.record.specs.Refusals.{paper}
 use Rattle.record.specs.declared.Record.{Record}
 use Rattle.record.specs.declared.ScheduleRefusal.{ScheduleRefusal}
-use Rattle.rules.specs.Papers.{Outcome, Paper, after, into, says}
+use Rattle.rules.specs.Papers.{Outcome, Paper, after, through, says}
 use Rattle.schedule.proofs.Judging.{judging-refused}
 use Rattle.schedule.proofs.Promises.{judging-fine, writes}
 use Rattle.schedule.specs.Judge.{Judges, Sound, judging}
@@ -27,7 +26,7 @@ module _ (su : Setup) (r : Record) (st le ro lo : List ℕ) (call : State → Ou
 
   pub ticks-refused : (v : Verdict) (e : ScheduleRefusal) → Judges su r st le ro v → v ≡ Ve.Refused e
       → Ticks su r st le ro lo (judging su r st le ro call) (paper e) r st le ro lo
-  unfolding says after into
+  unfolding says after through
   ticks-refused v e j q =
       rw (judging-refused su r st le ro call v e j q)
       (record { tables = record { answer = refl; next = refl; store = refl; lens = refl; rows = refl }; log = refl })

@@ -1,5 +1,4 @@
 -- What a tick comes to, by the parts that the code took one after the other.
--- Assumes nothing.
 use Prim.Native.Nat.{_+_, _-_, _<_, _≤_, min, ℕ}
 use lib.ListN.{length, length-drop}
 use mathlib.Core.Bool.{Bool}
@@ -10,7 +9,7 @@ use Rattle.log.specs.Log.{maxLogBytes}
 use Rattle.record.specs.Refusals.{paper}
 use Rattle.record.specs.declared.Record.{Record}
 use Rattle.record.specs.declared.ScheduleRefusal.the-variants.{LogTooSmall}
-use Rattle.rules.specs.Papers.{Paper, after, done, into, no, refused}
+use Rattle.rules.specs.Papers.{Paper, after, done, through, no, refused}
 use Rattle.schedule.proofs.Facts.{facts, table-sound}
 use Rattle.schedule.proofs.Promises.{does-done, does-refused}
 use Rattle.schedule.specs.Judge.{Sound}
@@ -49,7 +48,7 @@ module _ (su : Setup) (r : Record) (st le ro log : List ℕ) (limit : ℕ) (dele
 
   refused-by : (p : Paper) → tickIn limit delete log s ≡ refused p
       → TickDoes su r st le ro log (tickIn limit delete log) p r st le ro log
-  unfolding after into
+  unfolding after through
   refused-by p q = record { tables = does-refused su r st le ro (λ x. left (tickIn limit delete log x)) p (rw q); log = rw q }
 
   -- what the code answers, as what the tick comes to
@@ -104,7 +103,7 @@ module _ (su : Setup) (r : Record) (st le ro log : List ℕ) (limit : ℕ) (dele
       hands = hands-out limit delete log s t long lack-is none
 
       whole : left (tickIn limit delete log s) ≡ done (m ∷ (d - m) ∷ []) next
-      unfolding handedOut into next stateOf
+      unfolding handedOut through next stateOf
       whole = rw (hands, ← (out .many), remain-is)
 
       record-is : recordOf next ≡ withCount (r .count - m) r

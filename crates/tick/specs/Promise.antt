@@ -2,7 +2,7 @@
 use Prim.Native.Nat.{ℕ}
 use Rattle.record.specs.Refusals.{paper}
 use Rattle.record.specs.declared.Record.{Record}
-use Rattle.rules.specs.Papers.{Outcome, Paper, after, into, no}
+use Rattle.rules.specs.Papers.{Outcome, Paper, after, through, no}
 use Rattle.schedule.specs.Promise.{Does, Writes}
 use Rattle.schedule.specs.State.{State, stateOf}
 use Rattle.schedule.specs.declared.Setup.{Setup}
@@ -18,7 +18,7 @@ tickPaper (T.HandedOut h) = no 0 (h .m ∷ h .remain ∷ [])
 tickPaper (T.Refused e) = paper e
 
 abbrev pub left : Outcome Logged → Outcome State
-left o = into (λ x. x .state) o
+left o = through (λ x. x .state) o
 
 pub record Ticks (su : Setup) (r : Record) (st le ro lo : List ℕ) (o : Outcome Logged) (p : Paper) (r′ : Record)
     (st′ le′ ro′ lo′ : List ℕ) : Type 0 where

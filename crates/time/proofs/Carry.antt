@@ -1,5 +1,4 @@
 -- Seconds and nanoseconds from one number and back, and clock + margin with its carry.
--- Assumes nothing.
 use Prim.Native.Nat.{_*_, _+_, _-_, _<_, _≤_, ℕ}
 use Rattle.time.specs.Time.{giga, instantOf, momentAt}
 use mathlib.Core.Path.{_≡_, ap₂}

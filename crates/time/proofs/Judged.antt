@@ -1,5 +1,4 @@
 -- A time or margin that was judged in range, as facts.
--- Assumes nothing.
 use Rattle.rules.proofs.All.{and-left, and-right}
 use Rattle.time.specs.Time.{InRange, MarginInRange, giga, inRange, marginInRange, secsInRange}
 use borrow.Author.Tests.{leb-true, ltb-true}

@@ -1,5 +1,4 @@
 -- A signed number by its sign, as the machine casts it: below zero counted from -1 down, and from zero on itself.
--- Assumes nothing.
 use Prim.Native.Nat.{_-_, _<_, suc, ℕ}
 use borrow.Author.Tests.{le-ltb, ltb-true}
 use lib.Dec.{T}

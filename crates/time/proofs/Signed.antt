@@ -1,5 +1,4 @@
 -- The signed seconds, and their unsigned count from -2^42.
--- Assumes nothing.
 use Prim.Native.Nat.{_-_, _<_, _^_, _≤_, suc, ℕ}
 use Rattle.time.proofs.Size.{mag-sub}
 use Rattle.time.specs.Time.{InRange, biased, far, momentOf, secsInRange, timeOf}

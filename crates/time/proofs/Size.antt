@@ -1,5 +1,4 @@
 -- How large a signed result can be.
--- Assumes nothing.
 use Prim.Native.Nat.{_*_, _+_, _-_, _<_, _≤_, suc, zero, ℕ}
 use Rattle.time.specs.Time.{far, secsInRange}
 use lib.Dec.{T, le→leb, ltb, lt→ltb}

@@ -1,5 +1,4 @@
 -- One turn: what the address finds, by the store's promise, and the store after it.
--- Assumes nothing.
 use Prim.Native.Nat.{_+_, _-_, _≤_, ℕ}
 use Rattle.log.specs.Log.{recordBytes}
 use Rattle.rules.specs.Papers.{Paper, done, refused, says}

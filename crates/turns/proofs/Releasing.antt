@@ -1,7 +1,6 @@
 -- The first m rows handed out are document 01's handout, where m of the first n fit and the clock and the limit allow n.
--- Assumes nothing.
 use Prim.Native.Nat.{_≤_, min, ℕ}
-use Rattle.handing.specs.Handing.{Turns, afterAll, turns}
+use Rattle.handing.specs.Handing.{HandsOut, afterAll, turns}
 use Rattle.log.specs.Log.{LogRecord, logBytes}
 use Rattle.measure.specs.Fitting.{fitting}
 use Rattle.store.proofs.Laid.{leaves-as}
@@ -59,7 +58,7 @@ module _ (su : Setup) (st le w log : List ℕ) (del on : Bool) (n cap m : ℕ) (
     unfolding h
     left-is = splits (leave del) (always on) ck limit 8 cap es ps .left-is ∙ ap (λ (x : ℕ). drop x es) count-is
 
-    carried-out : (st′ le′ w′ log′ : List ℕ) → Turns su del on (unpack m w) st le log st′ le′ log′ → w′ ≡ relaid w count (without 0 m es)
+    carried-out : (st′ le′ w′ log′ : List ℕ) → HandsOut su del on (unpack m w) st le log st′ le′ log′ → w′ ≡ relaid w count (without 0 m es)
         → CarriedOut su count st le w log h m st′ le′ w′ log′
     carried-out st′ le′ w′ log′ t x =
         record {
@@ -69,7 +68,7 @@ module _ (su : Setup) (st le w log : List ℕ) (del on : Bool) (n cap m : ℕ) (
           moved = x ∙ ap (relaid w count) (without-first m es ∙ sym left-is);
         }
 
-  pub released : (le₁ st′ le′ w′ log′ : List ℕ) → le₁ ≡ le → Turns su del on (unpack m w) st le₁ log st′ le′ log′
+  pub released : (le₁ st′ le′ w′ log′ : List ℕ) → le₁ ≡ le → HandsOut su del on (unpack m w) st le₁ log st′ le′ log′
       → w′ ≡ relaid w count (without 0 m es) → Released su del on n cap count st le w log m st′ le′ w′ log′
   unfolding h
   released le₁ st′ le′ w′ log′ e t x =

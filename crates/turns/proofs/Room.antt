@@ -1,5 +1,4 @@
 -- The log holds what is handed out; what the first record alone needs of it.
--- Assumes nothing.
 use Prim.Native.Nat.{_+_, _<_, _≤_, suc, zero, ℕ}
 use Rattle.log.proofs.Sizes.{total-parts}
 use Rattle.log.specs.Log.{maxLogBytes}

@@ -13,7 +13,7 @@ use Rattle.rows.specs.Order.{ordered}
 use Rattle.turn.specs.Turns.{Handout, handed, handout, leave, need}
 use Rattle.turns_laws.proofs.Due.{below-drop, due-is}
 use Rattle.turns_laws.proofs.Packets.{Short, short-leave, short-need, sound-short}
-use Rattle.turns_laws.proofs.Fitting.{either}
+use Rattle.rules.proofs.Cases.{either}
 use Rattle.turns_laws.proofs.Split.{left-due, many, splits}
 use Rattle.turns_laws.specs.Draining.{drained, followedBy, largestSlot, roomFor, roundedUp}
 use Rattle.turns_laws.specs.Due.{due, dueCount}

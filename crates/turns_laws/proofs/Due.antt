@@ -1,5 +1,4 @@
 -- In an ordered schedule the due entries are those at the front, and what follows them is not due.
--- Assumes nothing.
 use Prim.Native.Nat.{_+_, _-_, _<_, _≤_, suc, zero, ℕ}
 use Rattle.rules.specs.Tests.{unless}
 use Rattle.rows.proofs.Order.{Head, ordered-cons}

@@ -1,25 +1,17 @@
 -- The entries that fit do fit: how many they are, and what their log takes.
--- Assumes nothing.
+use Rattle.rules.proofs.Cases.{either}
 use Prim.Native.Nat.{_+_, _≤_, suc, ℕ}
 use Rattle.log.proofs.Sizes.{taken}
 use Rattle.measure.specs.Fitting.{fitting}
-use Rattle.rules.specs.Tests.{unless}
 use Rattle.slots.specs.Pools.{Pool, find}
 use Rattle.rows.specs.Entries.{Entry}
 use Rattle.turn.specs.Turns.{need}
 use Rattle.handing.specs.Handing.{turns}
 use borrow.Author.Tests.{leb-true}
 use lib.ListN.{length, take}
-use mathlib.Core.Bool.{Bool, false, true}
+use mathlib.Core.Bool.{Bool}
 use mathlib.Core.List.{List, [], _∷_}
-use mathlib.Core.Path.{_≡_, refl}
 use native.Mathlib.Omega.{arith}
-
--- what holds of both outcomes of a test holds of what it picks
-pub either : {A : Type 0} (P : A → Type 0) (b : Bool) (x y : A) → (b ≡ true → P x) → (b ≡ false → P y) → P (unless b y x)
-unfolding unless
-either P true x y f g = f refl
-either P false x y f g = g refl
 
 module _ (after : List Pool → ℕ → List Pool) (cap : ℕ) where
   pub fitting-le : (used : ℕ) (es : List Entry) (ps : List Pool) → fitting after used cap es ps ≤ length es

@@ -1,5 +1,4 @@
 -- A store that finds the same, turn by turn, hands out the same.
--- Assumes nothing.
 use Prim.Native.Nat.{_+_, _-_, ℕ}
 use Rattle.rules.specs.Tests.{unless}
 use Rattle.slots.specs.Pools.{Pool, find}

@@ -1,5 +1,4 @@
 -- A reader of the log that a handout fills finds the records that were handed out, each where its offset says.
--- Assumes nothing.
 use Prim.Native.Nat.{_≤_, suc, zero, ℕ}
 use Rattle.log.proofs.ReadBack.{Plain, read-back}
 use Rattle.log.specs.Log.{logBytes, maxLogBytes}

@@ -1,5 +1,4 @@
 -- "The largest number m of due entries that the limit allows and the log holds."
--- Assumes nothing.
 use Prim.Native.Nat.{_+_, _≤_, min, suc, zero, ℕ}
 use Rattle.log.proofs.Sizes.{taken, total-parts}
 use Rattle.log.specs.Log.{total}

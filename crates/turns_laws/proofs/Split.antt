@@ -1,5 +1,4 @@
 -- The schedule splits by position: its first m entries are handed out, in order, and leave; the others stay.
--- Assumes nothing.
 use Prim.Native.Nat.{_+_, _-_, _≤_, min, suc, ℕ}
 use Rattle.measure.specs.Fitting.{fitting}
 use Rattle.rules.specs.Tests.{allOf, unless}
@@ -7,7 +6,8 @@ use Rattle.slots.specs.Pools.{Pool, find}
 use Rattle.table.proofs.Before.{below-head, below-not}
 use Rattle.rows.specs.Entries.{Entry, time}
 use Rattle.turn.specs.Turns.{Handout, handed, handout, need, put, stop}
-use Rattle.turns_laws.proofs.Fitting.{either, fitting-le}
+use Rattle.turns_laws.proofs.Fitting.{fitting-le}
+use Rattle.rules.proofs.Cases.{either}
 use Rattle.turns_laws.proofs.Due.{below-drop}
 use Rattle.turns_laws.specs.Due.{due}
 use Rattle.handing.specs.Handing.{afterAll, turns}

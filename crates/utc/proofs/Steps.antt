@@ -1,5 +1,4 @@
 -- One year and one month more or less: what the loops over the calendar go by.
--- Assumes nothing.
 use Prim.Native.Nat.{_+_, _<_, _≤_, ℕ}
 use Rattle.utc.specs.Calendar.{DateOf, dayNumber, leap, monthDays, monthsDays, yearDays, yearsDays}
 use Rattle.utc.specs.Inside.{Months, Years}

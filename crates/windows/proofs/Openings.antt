@@ -1,5 +1,4 @@
 -- A window that is given: its ends judged, and what opening it says of every call with it.
--- Assumes nothing.
 use Prim.Native.Nat.{ℕ, _<_, _≤_}
 use borrow.Author.Tests.{le-leb, le-ltb, lt-leb, lt-ltb}
 use lib.Dec.{leb, ltb}

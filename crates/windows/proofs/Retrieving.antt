@@ -1,5 +1,4 @@
 -- What a retrieval answers, by the opened window.
--- Assumes nothing.
 use Prim.Native.Nat.{ℕ}
 use lib.ListN.{length}
 use mathlib.Core.List.{List, [], _∷_}

@@ -1,5 +1,4 @@
 -- Reading what was written gives the number back: at every width, wherever it was written.
--- Assumes nothing.
 use Prim.Native.Nat.{_%_, _*_, _+_, _/_, _<_, _^_, _≤_, suc, zero, ℕ}
 use Rattle.words.proofs.Sets.{length-bytes}
 use Rattle.words.specs.Words.{bytesOf, number}

@@ -1,5 +1,4 @@
 -- Laws of a run of stores, `lib.Seq.sets`, which writers cite; and of a number's bytes among them.
--- Assumes nothing.
 use Prim.Native.Nat.{_%_, _+_, _-_, _/_, _<_, _≤_, suc, zero, ℕ}
 use Rattle.words.specs.Words.{bytesOf}
 use lib.ListN.{length, length-append, set}

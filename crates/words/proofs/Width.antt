@@ -1,5 +1,4 @@
 -- How large a number of k bytes is, over the width.
--- Assumes nothing.
 use Prim.Native.Nat.{_*_, _+_, _<_, _^_, _≤_, ℕ}
 use lib.Pow.{pow-add, pow-mono}
 use mathlib.Core.Path.{_≡_}

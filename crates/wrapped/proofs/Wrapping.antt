@@ -1,5 +1,4 @@
 -- What a wrapped insertion comes to, by what opening the outer packet and its stamp said.
--- Assumes nothing.
 use Prim.Native.Nat.{ℕ, _<_, _≤_}
 use borrow.Author.Tests.{eq-eqb, le-leb, lt-leb, ne-eqb}
 use lib.ListN.{drop, length}

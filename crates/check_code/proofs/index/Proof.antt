@@ -1,5 +1,4 @@
 -- `check_code::index` meets its contract.
--- Assumes nothing.
 use Prim.Native.Nat.{_/_, _<_}
 use lib.Bits.{bitXor, xor-lt}
 use mathlib.Core.Path.{refl}

@@ -1,5 +1,4 @@
 -- `check_code::of` meets its contract. The loop's invariant: what is left of the bytes, fed to the code so far, gives the code of all.
--- Assumes nothing.
 use Prim.Native.Nat.{_%_, _*_, _+_, _-_, _/_, _<_, _≤_, ℕ}
 use Rattle.check_code.proofs.Lookup.{entry-is}
 use Rattle.check_code.proofs.Xor.{feed-by-table}

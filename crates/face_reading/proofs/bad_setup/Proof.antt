@@ -1,5 +1,4 @@
 -- `face_reading::bad_setup` meets its contract.
--- Assumes nothing.
 use Rattle.rules.specs.Tests.{allOf}
 use Rattle.layout.specs.Judge.{setupOk}
 use mathlib.Core.Path.{refl}

@@ -1,5 +1,4 @@
 -- `face_reading::is_narrow` meets its contract.
--- Assumes nothing.
 use Prim.Native.Nat.{_-_, _<_, _≤_, ℕ}
 use Rattle.face_reading.proofs.Narrow.{Fits16, narrow-end, narrow-more, narrow-stop}
 use native.Mathlib.Omega.{arith}

@@ -1,5 +1,4 @@
 -- `face_reading::is_on` meets its contract.
--- Assumes nothing.
 use Rattle.face_reading.specs.Reading.{switched}
 use borrow.Author.Needs.{needs}
 use Rattle.face_reading.proofs.is_on.Statement.{statement}

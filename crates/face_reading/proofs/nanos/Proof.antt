@@ -1,5 +1,4 @@
 -- `face_reading::nanos` meets its contract.
--- Assumes nothing.
 use Rattle.face_reading.specs.Inside.{clipped}
 use borrow.Author.Tests.{le-ltb, lt-ltb}
 use borrow.Author.Needs.{needs}

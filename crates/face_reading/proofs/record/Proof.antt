@@ -1,5 +1,4 @@
 -- `face_reading::record` meets its contract.
--- Assumes nothing.
 use Rattle.face_reading.proofs.Standing.{stands-words}
 use Rattle.face_reading.specs.Inside.{clipped}
 use Rattle.face_reading.specs.Reading.{signed, switched}

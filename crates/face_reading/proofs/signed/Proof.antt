@@ -1,5 +1,4 @@
 -- `face_reading::signed` meets its contract.
--- Assumes nothing.
 use Rattle.face_reading.proofs.Seconds.{back-fits, back-is}
 use Rattle.face_reading.specs.Reading.{signedBy}
 use Rattle.time.proofs.Signed.{pos-back}

@@ -1,5 +1,4 @@
 -- `face_reading::slots` meets its contract.
--- Assumes nothing.
 use Rattle.face_reading.proofs.Narrow.{narrow-at}
 use Rattle.face_reading.specs.Reading.{column}
 use Rattle.rules.specs.Lists.{each}

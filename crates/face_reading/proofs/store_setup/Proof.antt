@@ -1,5 +1,4 @@
 -- `face_reading::store_setup` meets its contract.
--- Assumes nothing.
 use Rattle.face_reading.proofs.Narrow.{fine-counted, fine-few, fine-narrow, reads-all, reads-bad}
 use Rattle.face_reading.specs.Reading.{switched}
 use borrow.Author.Tests.{not-false, not-true}

@@ -1,5 +1,4 @@
 -- `face_reading::window` meets its contract.
--- Assumes nothing.
 use Rattle.face_reading.specs.Reading.{windowFrom}
 use Rattle.face_reading.proofs.window.Statement.{statement}
 use Rattle.face_reading.proofs.window.Tie as tie

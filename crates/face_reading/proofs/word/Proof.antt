@@ -1,5 +1,4 @@
 -- `face_reading::word` meets its contract.
--- Assumes nothing.
 use lib.ListN.{List·getD-eq-default}
 use mathlib.Core.Path.{sym}
 use borrow.Author.Needs.{needs}

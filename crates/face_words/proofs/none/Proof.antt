@@ -1,5 +1,4 @@
 -- `face_words::none` meets its contract.
--- Assumes nothing.
 use Rattle.face_words.specs.Padding.{padded}
 use borrow.Author.Needs.{needs}
 use Rattle.face_words.proofs.none.Statement.{statement}

@@ -1,5 +1,4 @@
 -- `face_words::word_of` meets its contract.
--- Assumes nothing.
 use Rattle.face_words.proofs.Signed.{down-small, down-word, up-word}
 use Rattle.time.proofs.Sign.{down-casts, down-fits, up-casts}
 use mir.Syntax.{w64}

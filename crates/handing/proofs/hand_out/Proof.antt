@@ -1,5 +1,4 @@
 -- `handing::hand_out` meets its contract.
--- Assumes nothing.
 use Prim.Native.Nat.{_-_}
 use Rattle.handing.proofs.Turning.{Turning, turning-end, turning-first, turning-last, turning-next, turning-room, turning-start}
 use mathlib.Core.Path.{_∙_}

@@ -1,5 +1,4 @@
 -- `in_place::disable` meets its contract, by the walk that it shares with `in_place::enable`.
--- Assumes nothing.
 use mathlib.Core.Bool.{false}
 use contract.Running.{givenOf, tables, tablesOf}
 use denote.Triple.Spec.{tripleOf}

@@ -1,5 +1,4 @@
 -- `in_place::enable` meets its contract, by the walk that it shares with `in_place::disable`.
--- Assumes nothing.
 use mathlib.Core.Bool.{true}
 use contract.Running.{givenOf, tables, tablesOf}
 use denote.Triple.Spec.{tripleOf}

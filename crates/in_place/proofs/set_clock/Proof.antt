@@ -1,7 +1,6 @@
 -- `in_place::set_clock` meets its contract: a walk of its MIR, by hand. The record is copied to a local, which is lent to `record::set_clock` for
 -- a lifetime of the call and taken back at the value that the call leaves.
 -- All that the proof knows of `record::set_clock` is that it meets its contract.
--- Assumes nothing.
 use mathlib.Core.Path.{_≡_, refl, ap}
 use Prim.Native.Nat.{ℕ}
 use mathlib.Core.List.{[], _∷_, List}

@@ -1,5 +1,4 @@
 -- `log::put_bytes` meets its contract. The loop's invariant: what is left to copy makes of the log now what the whole makes of it at entry.
--- Assumes nothing.
 use Prim.Native.Nat.{_+_, _-_, _≤_, ℕ}
 use Rattle.log.proofs.Putting.{copy-turn}
 use lib.ListN.{drop, drop-of-length-le, length, length-set}

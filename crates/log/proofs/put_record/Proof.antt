@@ -1,5 +1,4 @@
 -- `log::put_record` meets its contract: flag, request ID, address and packet are stored one behind the other.
--- Assumes nothing.
 use Rattle.log.proofs.Putting.{record-is}
 use lib.ListN.{length-set}
 use mathlib.Core.Path.{_∙_}

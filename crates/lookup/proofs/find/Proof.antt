@@ -1,5 +1,4 @@
 -- `lookup::find` meets its contract.
--- Assumes nothing.
 use Rattle.layout.proofs.Bounds.{bounds}
 use Rattle.lookup.proofs.Asks.{finds-at, finds-refused}
 use Rattle.lookup.proofs.Packets.{PacketAt, packet-found}

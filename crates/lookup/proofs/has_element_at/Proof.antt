@@ -1,5 +1,4 @@
 -- `lookup::has_element_at` meets its contract.
--- Assumes nothing.
 use Prim.Native.Nat.{_<_}
 use Rattle.layout.proofs.Bounds.{bounds}
 use Rattle.lookup.proofs.Asks.{has-held, has-refused, has-vacant}

@@ -1,5 +1,4 @@
 -- `lookup::len_of_data` meets its contract.
--- Assumes nothing.
 use Prim.Native.Nat.{_<_}
 use Rattle.layout.proofs.Bounds.{bounds}
 use Rattle.lookup.proofs.Asks.{len-held, len-refused, len-vacant}

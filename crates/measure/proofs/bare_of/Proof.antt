@@ -1,5 +1,4 @@
 -- `measure::bare_of` meets its contract.
--- Assumes nothing.
 use Rattle.measure.proofs.Unmarking.{bare-free, bare-low, bare-word}
 use native.Mathlib.Omega.{arith}
 use Rattle.measure.proofs.bare_of.Statement.{statement}

@@ -1,5 +1,4 @@
 -- `measure::bytes_left` meets its contract.
--- Assumes nothing.
 use Rattle.measure.proofs.Marking.{standing-beyond, standing-gone, standing-there}
 use mathlib.Core.Path.{_∙_}
 use native.Mathlib.Omega.{arith}

@@ -1,5 +1,4 @@
 -- `measure::mark` meets its contract.
--- Assumes nothing.
 use Rattle.measure.proofs.Marking.{marking-beyond, marking-gone, marking-keep, marking-there}
 use borrow.Author.Tests.{not-false, not-true}
 use borrow.Author.Needs.{needs}

@@ -1,5 +1,4 @@
 -- `measure::mark_fitting` meets its contract.
--- Assumes nothing.
 use Prim.Native.Nat.{_-_}
 use Rattle.measure.proofs.Measuring.{Measuring, measuring-first, measuring-last, measuring-long, measuring-next, measuring-stop}
 use Rattle.layout.proofs.Layouts.{setup-few}

@@ -1,5 +1,4 @@
 -- `measure::measure` meets its contract.
--- Assumes nothing.
 use Rattle.measure.proofs.Unmarking.{restored}
 use Rattle.layout.proofs.Bounds.{bounds}
 use Rattle.layout.proofs.Layouts.{setup-few}

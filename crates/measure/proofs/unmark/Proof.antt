@@ -1,5 +1,4 @@
 -- `measure::unmark` meets its contract.
--- Assumes nothing.
 use Prim.Native.Nat.{_-_, _≤_}
 use Rattle.measure.proofs.Unmarking.{unmarked-more, unmarked-none}
 use Rattle.measure.specs.Inside.{Unmarked}

@@ -1,5 +1,4 @@
 -- `packet::read` meets its contract: each test that was passed is one more line of `readOf`.
--- Assumes nothing.
 use Rattle.packet.proofs.Readable.{readable-is}
 use Rattle.packet.specs.Packet.{checkBytes, headerBits, longEnough, readOf, totalInBounds, versionNibble}
 use Rattle.rules.specs.Tests.{unless}

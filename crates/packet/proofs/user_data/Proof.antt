@@ -1,5 +1,4 @@
 -- `packet::user_data` meets its contract.
--- Assumes nothing.
 use Rattle.packet.proofs.Readable.{data-none}
 use mathlib.Core.Path.{_∙_, refl, sym}
 use borrow.Author.Needs.{needs}

@@ -1,5 +1,4 @@
 -- `record::disable` meets its contract, by the walk that it shares with `record::enable`.
--- Assumes nothing.
 use mathlib.Core.Bool.{false}
 use contract.Running.{givenOf, tables, tablesOf}
 use denote.Triple.Spec.{tripleOf}

@@ -1,5 +1,4 @@
 -- `record::enable` meets its contract, by the walk that it shares with `record::disable`.
--- Assumes nothing.
 use mathlib.Core.Bool.{true}
 use contract.Running.{givenOf, tables, tablesOf}
 use denote.Triple.Spec.{tripleOf}

@@ -1,7 +1,6 @@
 -- `record::set_clock` meets its contract: a walk of its MIR, by hand. The borrow is opened, the record is copied out and passed to `clocked`, what
 -- that returns is stored behind the borrow, and the borrow is closed there.
 -- All that the proof knows of `clocked` is that it meets its contract.
--- Assumes nothing.
 use mathlib.Core.Path.{refl, ap}
 use Prim.Native.Nat.{ℕ}
 use mathlib.Core.List.{[], _∷_, List}

@@ -1,5 +1,4 @@
 -- `schedule::count` meets its contract.
--- Assumes nothing.
 use borrow.Author.Needs.{needs}
 use Rattle.rules.specs.Papers.{says}
 use Rattle.schedule.specs.Answers.{countedPaper}

@@ -1,5 +1,4 @@
 -- `schedule::fresh_start` meets its contract.
--- Assumes nothing.
 use lib.ListN.{length}
 use mathlib.Core.Bool.{true}
 use mathlib.Core.Path.{_≡_}

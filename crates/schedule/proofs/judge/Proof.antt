@@ -1,5 +1,4 @@
 -- `schedule::judge` meets its contract: each test that was passed is one more line of `judging`.
--- Assumes nothing.
 use lib.ListN.{length}
 use mathlib.Core.Bool.{true}
 use mathlib.Core.Path.{_≡_, _∙_, sym}

@@ -1,5 +1,4 @@
 -- `schedule_answers::behind` meets its contract.
--- Assumes nothing.
 use borrow.Author.Needs.{needs}
 use Rattle.schedule_answers.proofs.behind.Statement.{statement}
 use Rattle.schedule_answers.proofs.behind.Tie as tie

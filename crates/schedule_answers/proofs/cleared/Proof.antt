@@ -1,5 +1,4 @@
 -- `schedule_answers::cleared` meets its contract.
--- Assumes nothing.
 use Rattle.deletions.specs.Answers.{clearedPaper}
 use Rattle.face_words.proofs.Told.{told}
 use Rattle.schedule_answers.proofs.Carried.{carry-is, last-few}

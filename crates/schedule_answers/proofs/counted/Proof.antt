@@ -1,5 +1,4 @@
 -- `schedule_answers::counted` meets its contract.
--- Assumes nothing.
 use Rattle.face_words.proofs.Told.{one-is, told}
 use Rattle.schedule.specs.Answers.{countedPaper}
 use borrow.Author.Needs.{needs}

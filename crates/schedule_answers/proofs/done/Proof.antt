@@ -1,5 +1,4 @@
 -- `schedule_answers::done` meets its contract.
--- Assumes nothing.
 use Rattle.face_words.proofs.Told.{told}
 use Rattle.record.specs.Refusals.{donePaper}
 use borrow.Author.Needs.{needs}

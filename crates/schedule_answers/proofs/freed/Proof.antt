@@ -1,5 +1,4 @@
 -- `schedule_answers::freed` meets its contract.
--- Assumes nothing.
 use Rattle.by_id.specs.Answers.{freedPaper}
 use Rattle.face_words.proofs.Told.{told}
 use Rattle.schedule_answers.proofs.Carried.{carry-is, store-few}

@@ -1,5 +1,4 @@
 -- `schedule_answers::inserted` meets its contract.
--- Assumes nothing.
 use Rattle.face_words.proofs.Told.{told}
 use Rattle.insertions.specs.Answers.{insertedPaper}
 use borrow.Author.Needs.{needs}

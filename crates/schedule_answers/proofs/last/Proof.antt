@@ -1,5 +1,4 @@
 -- `schedule_answers::last` meets its contract.
--- Assumes nothing.
 use Rattle.deletions.specs.Answers.{lastPaper}
 use Rattle.face_words.proofs.Told.{told}
 use borrow.Author.Needs.{needs}

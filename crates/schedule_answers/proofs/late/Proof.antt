@@ -1,5 +1,4 @@
 -- `schedule_answers::late` meets its contract.
--- Assumes nothing.
 use Rattle.face_words.proofs.Signed.{held-word}
 use Rattle.schedule_answers.proofs.Carried.{six-is}
 use mathlib.Core.Path.{refl}

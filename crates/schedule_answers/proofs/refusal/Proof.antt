@@ -1,5 +1,4 @@
 -- `schedule_answers::refusal` meets its contract.
--- Assumes nothing.
 use Rattle.face_words.proofs.Told.{one-is, told}
 use Rattle.record.specs.Refusals.{paper}
 use borrow.Author.Needs.{needs}

@@ -1,5 +1,4 @@
 -- `schedule_answers::retrieved` meets its contract.
--- Assumes nothing.
 use Rattle.windows.specs.Answers.{retrievedPaper}
 use Rattle.face_words.proofs.Told.{told, two-is}
 use borrow.Author.Needs.{needs}

@@ -1,5 +1,4 @@
 -- `schedule_answers::short` meets its contract.
--- Assumes nothing.
 use Rattle.face_words.specs.Inside.{eight}
 use lib.ListN.{drop}
 use mathlib.Core.List.{_++_}

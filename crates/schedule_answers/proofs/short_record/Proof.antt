@@ -1,5 +1,4 @@
 -- `schedule_answers::short_record` meets its contract.
--- Assumes nothing.
 use Rattle.schedule_answers.specs.Inside.{shortPaper}
 use mathlib.Core.Path.{_∙_, sym}
 use borrow.Author.Needs.{needs}

@@ -1,5 +1,4 @@
 -- `schedule_answers::taken` meets its contract.
--- Assumes nothing.
 use Rattle.by_id.specs.Answers.{takenPaper}
 use Rattle.face_words.proofs.Told.{told}
 use borrow.Author.Needs.{needs}

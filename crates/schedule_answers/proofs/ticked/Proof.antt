@@ -1,5 +1,4 @@
 -- `schedule_answers::ticked` meets its contract.
--- Assumes nothing.
 use Rattle.face_words.proofs.Told.{told, two-is}
 use Rattle.tick.specs.Promise.{tickPaper}
 use borrow.Author.Needs.{needs}

@@ -1,5 +1,4 @@
 -- `stamp::read` meets its contract: the first byte picks the width, and each width cites `read_width`.
--- Assumes nothing.
 use Prim.Native.Nat.{suc, ℕ}
 use Rattle.stamp.specs.Stamp.{stampOf}
 use borrow.Author.Tests.{eq-eqb, ne-eqb}

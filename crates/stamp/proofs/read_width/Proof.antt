@@ -1,5 +1,4 @@
 -- `stamp::read_width` meets its contract, at every width of the day up to three bytes: both forms cite this.
--- Assumes nothing.
 use Prim.Native.Nat.{_+_, _<_, _≤_}
 use Rattle.rules.specs.Tests.{unless}
 use Rattle.stamp.specs.Stamp.{stampAt}

@@ -1,5 +1,4 @@
 -- `store_answers::added` meets its contract.
--- Assumes nothing.
 use Rattle.face_words.proofs.Told.{told}
 use Rattle.store.specs.Refusals.{addedPaper}
 use borrow.Author.Needs.{needs}

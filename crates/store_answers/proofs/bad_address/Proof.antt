@@ -1,5 +1,4 @@
 -- `store_answers::bad_address` meets its contract.
--- Assumes nothing.
 use Rattle.face_words.proofs.Told.{one-is, told}
 use Rattle.lookup.specs.Refusals.{badPaper}
 use borrow.Author.Needs.{needs}

@@ -1,5 +1,4 @@
 -- `store_answers::length` meets its contract.
--- Assumes nothing.
 use Rattle.face_words.proofs.Told.{one-is, told}
 use Rattle.lookup.specs.Refusals.{lengthPaper}
 use borrow.Author.Needs.{needs}

@@ -1,5 +1,4 @@
 -- `store_answers::presence` meets its contract.
--- Assumes nothing.
 use Rattle.face_words.proofs.Told.{one-is, told}
 use Rattle.lookup.specs.Refusals.{bit, presencePaper}
 use mathlib.Core.Path.{ap, sym}

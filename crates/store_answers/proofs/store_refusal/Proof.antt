@@ -1,5 +1,4 @@
 -- `store_answers::store_refusal` meets its contract.
--- Assumes nothing.
 use Rattle.face_words.proofs.Told.{one-is, told, two-is}
 use Rattle.lookup.specs.Refusals.{paper}
 use borrow.Author.Needs.{needs}

@@ -1,5 +1,4 @@
 -- `table::below_words` meets its contract. The loop's invariant: the rows passed are before the moment, and what is left decides.
--- Assumes nothing.
 use Prim.Native.Nat.{_*_, _+_, _-_, _<_, _≤_, ℕ}
 use Rattle.rows.proofs.Order.{ordered-row}
 use Rattle.rows.specs.Entries.{row, time, unpack}

@@ -1,5 +1,4 @@
 -- `table::up_to` meets its contract: not after a moment is before the next nanosecond.
--- Assumes nothing.
 use Prim.Native.Nat.{_*_, _+_, ℕ}
 use Rattle.rows.specs.Entries.{unpack}
 use Rattle.table.specs.Before.{below}

@@ -1,5 +1,4 @@
 -- `table_edit::insert` meets its contract: after every entry that is not later is at the index that `up_to` answers.
--- Assumes nothing.
 use Rattle.rows.specs.Entries.{entryOf}
 use Rattle.table_edit.proofs.Ordering.{insert-is}
 use borrow.Author.Needs.{needs}

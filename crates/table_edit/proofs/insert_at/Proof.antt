@@ -1,5 +1,4 @@
 -- `table_edit::insert_at` meets its contract.
--- Assumes nothing.
 use Rattle.rows.specs.Entries.{entryOf}
 use Rattle.table_edit.proofs.Written.{inserted}
 use lib.ListN.{length-set}

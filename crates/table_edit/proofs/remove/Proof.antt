@@ -1,5 +1,4 @@
 -- `table_edit::remove` meets its contract.
--- Assumes nothing.
 use Rattle.table_edit.proofs.Written.{removes}
 use native.Mathlib.Omega.{arith}
 use borrow.Author.Needs.{needs}

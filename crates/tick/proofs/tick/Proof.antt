@@ -1,5 +1,4 @@
 -- `tick::tick` meets its contract.
--- Assumes nothing.
 use Rattle.tick.specs.Tick.{tickIn}
 use Rattle.tick.specs.Promise.{tickPaper}
 use Rattle.tick.proofs.Promised.{ticks, ticks-refused}

@@ -1,5 +1,4 @@
 -- `time::earliest_release` meets its contract: no sum wraps, and the carry goes to the seconds.
--- Assumes nothing.
 use Prim.Native.Nat.{_+_, _<_, _≤_}
 use Rattle.time.proofs.Carry.{sum-carries, sum-stays}
 use Rattle.time.proofs.Signed.{biased-le}

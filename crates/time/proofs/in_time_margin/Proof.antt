@@ -1,5 +1,4 @@
 -- `time::in_time_margin` meets its contract: the two moments compare as their numbers do.
--- Assumes nothing.
 use Rattle.time.proofs.Carry.{instant-at}
 use Rattle.time.specs.Time.{earliest, instantOf}
 use lib.Dec.{ltb}

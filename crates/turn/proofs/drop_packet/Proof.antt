@@ -1,5 +1,4 @@
 -- `turn::drop_packet` meets its contract.
--- Assumes nothing.
 use Rattle.turn.proofs.OneTurn.{deleted, kept}
 use borrow.Author.Needs.{needs}
 use Rattle.turn.proofs.drop_packet.Statement.{statement}

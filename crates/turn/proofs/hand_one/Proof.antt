@@ -1,5 +1,4 @@
 -- `turn::hand_one` meets its contract.
--- Assumes nothing.
 use Rattle.turn.proofs.OneTurn.{lent-long, span-in, turned-away, turned-here}
 use native.Mathlib.Omega.{arith}
 use borrow.Author.Needs.{needs}

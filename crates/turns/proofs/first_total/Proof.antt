@@ -1,5 +1,4 @@
 -- `turns::first_total` meets its contract.
--- Assumes nothing.
 use Rattle.turn.proofs.OneTurn.{long-away, long-here, span-in}
 use Rattle.turns.proofs.Room.{first-is, first-none}
 use native.Mathlib.Omega.{arith}

@@ -1,5 +1,4 @@
 -- `turns::release` meets its contract.
--- Assumes nothing.
 use Rattle.turns.proofs.Releasing.{released}
 use Rattle.turns.proofs.Room.{few, roomy}
 use native.Mathlib.Omega.{arith}

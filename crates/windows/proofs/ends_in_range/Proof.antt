@@ -1,5 +1,4 @@
 -- `windows::ends_in_range` meets its contract.
--- Assumes nothing.
 use mathlib.Core.Bool.{_&&_}
 use mathlib.Core.Path.{_∙_, ap₂}
 use borrow.Author.Needs.{needs}

@@ -1,5 +1,4 @@
 -- `windows::forward` meets its contract.
--- Assumes nothing.
 use borrow.Author.Needs.{needs}
 use Rattle.windows.proofs.Openings.{both-judged}
 use Rattle.windows.specs.Windowing.{forward}

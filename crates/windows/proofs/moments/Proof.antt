@@ -1,5 +1,4 @@
 -- `windows::moments` meets its contract.
--- Assumes nothing.
 use borrow.Author.Needs.{needs}
 use Rattle.windows.proofs.Openings.{both-judged, from-judged, to-judged}
 use Rattle.windows.specs.Windowing.{windowOf}

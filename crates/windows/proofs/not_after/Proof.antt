@@ -1,5 +1,4 @@
 -- `windows::not_after` meets its contract.
--- Assumes nothing.
 use lib.Dec.{ltb}
 use mathlib.Core.Bool.{not}
 use mathlib.Core.Path.{_∙_, ap, ap₂}

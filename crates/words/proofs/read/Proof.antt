@@ -1,5 +1,4 @@
 -- `words::read` meets its contract. The loop's invariant: `v` is the number of the first `k` bytes, and below 2 ^ (8 * k).
--- Assumes nothing.
 use Prim.Native.Nat.{_*_, _+_, _-_, _<_, _^_, _≤_, ℕ}
 use Rattle.words.proofs.Width.{byte-more, widen}
 use Rattle.words.specs.Words.{Reads, number}

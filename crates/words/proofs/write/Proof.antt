@@ -1,5 +1,4 @@
 -- `words::write` meets its contract. The loop's invariant: what is left to write makes of the bytes now what the whole makes of those at entry.
--- Assumes nothing.
 use Prim.Native.Nat.{_≤_, ℕ}
 use Rattle.words.proofs.Sets.{bytes-turn}
 use Rattle.words.specs.Words.{bytesOf}

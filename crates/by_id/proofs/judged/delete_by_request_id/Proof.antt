@@ -1,5 +1,4 @@
 -- `by_id::judged::delete_by_request_id` meets its contract.
--- Assumes nothing.
 use native.Mathlib.Omega.{arith}
 use borrow.Author.Needs.{needs}
 use Rattle.by_id.specs.Answers.{takenPaper}

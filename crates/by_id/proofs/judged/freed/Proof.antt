@@ -1,5 +1,4 @@
 -- `by_id::judged::freed` meets its contract.
--- Assumes nothing.
 use mathlib.Core.Path.{ap, sym}
 use borrow.Author.Needs.{needs}
 use Rattle.by_id.specs.Inside.{freedOf}

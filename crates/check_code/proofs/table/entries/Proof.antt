@@ -1,5 +1,4 @@
 -- `check_code::table::entries` meets its contract: antt computes the rule at all 256 places and holds the table against it.
--- Assumes nothing.
 use Rattle.check_code.specs.CheckCode.{shift, shifted8, tableOf}
 use Rattle.rules.specs.Lists.{each}
 use mathlib.Core.Path.{refl}

@@ -1,5 +1,4 @@
 -- `deletions::deleting::clear` meets its contract.
--- Assumes nothing.
 use borrow.Author.Needs.{needs}
 use Rattle.deletions.proofs.Clearing.{clear-done}
 use Rattle.schedule.proofs.Facts.{facts, table-sound, table-held}

@@ -1,5 +1,4 @@
 -- `deletions::deleting::delete_by_time_filter` meets its contract.
--- Assumes nothing.
 use mathlib.Core.List.{[]}
 use borrow.Author.Needs.{needs}
 use Rattle.rules.specs.Papers.{done}

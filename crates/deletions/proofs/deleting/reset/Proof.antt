@@ -1,5 +1,4 @@
 -- `deletions::deleting::reset` meets its contract.
--- Assumes nothing.
 use native.Mathlib.Omega.{arith}
 use borrow.Author.Needs.{needs}
 use Rattle.deletions.proofs.Clearing.{reset-done}

@@ -1,5 +1,4 @@
 -- `deletions::sweep::one_more` meets its contract.
--- Assumes nothing.
 use borrow.Author.Needs.{needs}
 use Rattle.deletions.proofs.sweep.one_more.Statement.{statement}
 use Rattle.deletions.proofs.sweep.one_more.Tie as tie

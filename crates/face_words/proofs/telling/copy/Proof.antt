@@ -1,5 +1,4 @@
 -- `face_words::telling::copy` meets its contract.
--- Assumes nothing.
 use Prim.Native.Nat.{_-_, _≤_, ℕ}
 use Rattle.face_words.proofs.Eight.{eight-end, eight-more}
 use Rattle.face_words.specs.Inside.{eight}

@@ -1,5 +1,4 @@
 -- `face_words::telling::with_reset` meets its contract.
--- Assumes nothing.
 use Rattle.face_words.proofs.Written.{reset-written}
 use borrow.Author.Needs.{needs}
 use Rattle.face_words.proofs.telling.with_reset.Statement.{statement}

@@ -1,5 +1,4 @@
 -- `face_words::writing::all` meets its contract.
--- Assumes nothing.
 use Rattle.face_words.proofs.Signed.{held-word}
 use Rattle.face_words.proofs.Written.{bit-is, six-are, unwritten, written}
 use lib.ListN.{length-set}

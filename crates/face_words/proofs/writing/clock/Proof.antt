@@ -1,5 +1,4 @@
 -- `face_words::writing::clock` meets its contract.
--- Assumes nothing.
 use Rattle.face_words.proofs.Signed.{held-word}
 use Rattle.face_words.proofs.Written.{unwritten, written}
 use lib.ListN.{length-set}

@@ -1,5 +1,4 @@
 -- `face_words::writing::count` meets its contract.
--- Assumes nothing.
 use lib.ListN.{set}
 use mathlib.Core.Path.{ap}
 use borrow.Author.Needs.{needs}

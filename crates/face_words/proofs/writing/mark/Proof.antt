@@ -1,5 +1,4 @@
 -- `face_words::writing::mark` meets its contract.
--- Assumes nothing.
 use Rattle.face_words.proofs.Written.{bit-is, unwritten, written}
 use lib.ListN.{set}
 use mathlib.Core.Path.{ap}

@@ -1,5 +1,4 @@
 -- `gate::judged::insert_unwrapped_and_stored_tc` meets its contract.
--- Assumes nothing.
 use mathlib.Core.Bool.{true}
 use mathlib.Core.Path.{_≡_, _∙_, ap, sym}
 use native.Mathlib.Omega.{arith}

@@ -1,5 +1,4 @@
 -- `insertions::inserting::first_refusal` meets its contract.
--- Assumes nothing.
 use borrow.Author.Needs.{needs}
 use Rattle.insertions.specs.Inside.{firstRefusal}
 use Rattle.insertions.proofs.inserting.first_refusal.Statement.{statement}

@@ -1,5 +1,4 @@
 -- `insertions::inserting::insert_readable` meets its contract.
--- Assumes nothing.
 use mathlib.Core.Bool.{false}
 use mathlib.Core.Path.{_≡_, _∙_, ap, sym}
 use borrow.Author.Needs.{needs}

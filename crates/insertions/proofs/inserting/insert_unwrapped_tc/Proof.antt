@@ -1,5 +1,4 @@
 -- `insertions::inserting::insert_unwrapped_tc` meets its contract.
--- Assumes nothing.
 use mathlib.Core.Bool.{true}
 use mathlib.Core.Path.{_≡_, _∙_, sym}
 use borrow.Author.Needs.{needs}

@@ -1,5 +1,4 @@
 -- `insertions::inserting::nested` meets its contract.
--- Assumes nothing.
 use borrow.Author.Tests.{eq-eqb, ne-eqb}
 use Rattle.insertions.proofs.inserting.nested.Statement.{statement}
 use Rattle.insertions.proofs.inserting.nested.Tie as tie

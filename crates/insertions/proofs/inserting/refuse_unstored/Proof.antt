@@ -1,5 +1,4 @@
 -- `insertions::inserting::refuse_unstored` meets its contract.
--- Assumes nothing.
 use borrow.Author.Needs.{needs}
 use Rattle.insertions.proofs.Adding.{answers-first}
 use Rattle.insertions.proofs.inserting.refuse_unstored.Statement.{statement}

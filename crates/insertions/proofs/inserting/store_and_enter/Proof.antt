@@ -1,5 +1,4 @@
 -- `insertions::inserting::store_and_enter` meets its contract.
--- Assumes nothing.
 use mathlib.Core.Path.{_∙_, ap, sym}
 use native.Mathlib.Omega.{arith}
 use borrow.Author.Needs.{needs}

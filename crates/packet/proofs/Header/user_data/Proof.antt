@@ -1,5 +1,4 @@
 -- `packet::Header::user_data` meets its contract: the bytes that the header was read from hold its total.
--- Assumes nothing.
 use Prim.Native.Nat.{_≤_}
 use Rattle.packet.proofs.Readable.{data-is, packet-is, total-fits}
 use lib.ListN.{length}

@@ -1,5 +1,4 @@
 -- `packet::tests::check_bytes` meets its contract: the total lies within the bytes, so the part before its last two is there.
--- Assumes nothing.
 use Prim.Native.Nat.{_-_, _≤_, ℕ}
 use Rattle.check_code.specs.CheckCode.{checkCode}
 use Rattle.packet.proofs.Readable.{total-fits}

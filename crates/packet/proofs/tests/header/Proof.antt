@@ -1,5 +1,4 @@
 -- `packet::tests::header` meets its contract.
--- Assumes nothing.
 use borrow.Author.Needs.{needs}
 use Rattle.packet.proofs.tests.header.Statement.{statement}
 use Rattle.packet.proofs.tests.header.Tie as tie

@@ -1,5 +1,4 @@
 -- `packet::tests::header_bits` meets its contract.
--- Assumes nothing.
 use Prim.Native.Nat.{_/_, ℕ}
 use Rattle.packet.proofs.Bits.{bits-are}
 use Rattle.packet.specs.Packet.{headerBits}

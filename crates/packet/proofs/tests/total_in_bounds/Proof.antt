@@ -1,5 +1,4 @@
 -- `packet::tests::total_in_bounds` meets its contract.
--- Assumes nothing.
 use Prim.Native.Nat.{_<_, _≤_, ℕ}
 use Rattle.packet.specs.Packet.{totalInBounds, totalOf}
 use Rattle.rules.specs.Tests.{allOf}

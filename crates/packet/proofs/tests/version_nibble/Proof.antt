@@ -1,5 +1,4 @@
 -- `packet::tests::version_nibble` meets its contract.
--- Assumes nothing.
 use Rattle.packet.specs.Packet.{versionNibble}
 use mathlib.Core.Path.{refl}
 use borrow.Author.Needs.{needs}

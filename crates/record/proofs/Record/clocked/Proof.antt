@@ -1,5 +1,4 @@
 -- `record::Record::clocked` meets its contract.
--- Assumes nothing.
 use mathlib.Core.Path.{_∙_, sym}
 use borrow.Author.Needs.{needs}
 use Rattle.record.proofs.Changing.{clock-bad, clock-damaged, clock-done}

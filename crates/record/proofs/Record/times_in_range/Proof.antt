@@ -1,5 +1,4 @@
 -- `record::Record::times_in_range` meets its contract.
--- Assumes nothing.
 use mathlib.Core.Path.{_∙_, sym}
 use borrow.Author.Needs.{needs}
 use Rattle.record.proofs.Record.times_in_range.Statement.{statement}

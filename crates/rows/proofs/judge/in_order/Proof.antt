@@ -1,5 +1,4 @@
 -- `rows::judge::in_order` meets its contract. The loop's invariant is `Judging.Passed`.
--- Assumes nothing.
 use Prim.Native.Nat.{_-_, _≤_}
 use Rattle.rows.proofs.Judging.{Passed, judge-first, judge-last, judge-next}
 use native.Mathlib.Omega.{arith}

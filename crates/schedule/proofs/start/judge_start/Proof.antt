@@ -1,5 +1,4 @@
 -- `schedule::start::judge_start` meets its contract: each test that was passed is one more line of `startIn`.
--- Assumes nothing.
 use mathlib.Core.Bool.{true}
 use mathlib.Core.Path.{_≡_, _∙_, sym}
 use borrow.Author.Needs.{needs}

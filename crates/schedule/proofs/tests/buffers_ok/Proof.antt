@@ -1,5 +1,4 @@
 -- `schedule::tests::buffers_ok` meets its contract.
--- Assumes nothing.
 use mathlib.Core.Bool.{and-true}
 use mathlib.Core.Path.{_∙_, sym}
 use native.Mathlib.Omega.{arith}

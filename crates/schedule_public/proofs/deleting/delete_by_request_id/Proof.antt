@@ -1,5 +1,4 @@
 -- `schedule_public::deleting::delete_by_request_id` meets its contract.
--- Assumes nothing.
 use borrow.Author.Needs.{needs}
 use Rattle.by_id.specs.Answers.{takenPaper}
 use Rattle.by_id.specs.ById.{deleteKeepingIn}

@@ -1,5 +1,4 @@
 -- `schedule_public::deleting::delete_by_request_id_and_from_pool` meets its contract.
--- Assumes nothing.
 use borrow.Author.Needs.{needs}
 use Rattle.by_id.specs.Answers.{freedPaper}
 use Rattle.by_id.specs.ById.{deleteByIdIn}

@@ -1,5 +1,4 @@
 -- `schedule_public::deleting::delete_by_time_filter` meets its contract.
--- Assumes nothing.
 use borrow.Author.Needs.{needs}
 use Rattle.deletions.specs.Answers.{clearedPaper}
 use Rattle.deletions.specs.Deleting.{deleteWindowIn}

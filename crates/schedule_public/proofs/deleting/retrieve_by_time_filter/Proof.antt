@@ -1,5 +1,4 @@
 -- `schedule_public::deleting::retrieve_by_time_filter` meets its contract.
--- Assumes nothing.
 use mathlib.Core.Path.{_∙_, ap, refl, sym}
 use borrow.Author.Needs.{needs}
 use Rattle.rules.specs.Papers.{says}

@@ -1,5 +1,4 @@
 -- `schedule_public::inserting::insert_unwrapped_and_stored_tc` meets its contract.
--- Assumes nothing.
 use borrow.Author.Needs.{needs}
 use Rattle.record.specs.Refusals.{donePaper}
 use Rattle.gate.specs.Entering.{insertStoredIn}

@@ -1,5 +1,4 @@
 -- `schedule_public::inserting::insert_unwrapped_tc` meets its contract.
--- Assumes nothing.
 use borrow.Author.Needs.{needs}
 use Rattle.insertions.specs.Answers.{insertedPaper}
 use Rattle.insertions.specs.Inserting.{insertUnwrappedIn}

@@ -1,5 +1,4 @@
 -- `selection::find::alike` meets its contract: seconds and nanoseconds in range are equal where the times are.
--- Assumes nothing.
 use Rattle.selection.proofs.Matches.{rows-id, rows-nanos, rows-secs}
 use borrow.Author.Needs.{needs}
 use Rattle.selection.proofs.find.alike.Statement.{statement}

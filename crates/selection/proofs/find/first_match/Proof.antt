@@ -1,5 +1,4 @@
 -- `selection::find::first_match` meets its contract. The loop's invariant: no row passed has the ID.
--- Assumes nothing.
 use Prim.Native.Nat.{_+_, _-_, _≤_}
 use Rattle.rows.specs.Entries.{unpack}
 use Rattle.selection.proofs.Matches.{first-end, first-go, first-here}

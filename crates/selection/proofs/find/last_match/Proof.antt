@@ -1,5 +1,4 @@
 -- `selection::find::last_match` meets its contract. The loop's invariant: what is left goes on from the best so far.
--- Assumes nothing.
 use Prim.Native.Nat.{_+_, _-_, _<_, _≤_, ℕ}
 use Rattle.rows.specs.Entries.{Entry, row, time, unpack}
 use Rattle.selection.proofs.Matches.{last-end, last-go}

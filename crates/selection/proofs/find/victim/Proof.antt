@@ -1,5 +1,4 @@
 -- `selection::find::victim` meets its contract.
--- Assumes nothing.
 use Rattle.selection.proofs.Matches.{victim-none, victim-some}
 use native.Mathlib.Omega.{arith}
 use borrow.Author.Needs.{needs}

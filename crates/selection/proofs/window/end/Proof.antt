@@ -1,5 +1,4 @@
 -- `selection::window::end` meets its contract, window by window.
--- Assumes nothing.
 use Rattle.rows.proofs.Rows.{length-unpack}
 use Rattle.selection.specs.Windows.{endOf}
 use mathlib.Core.Path.{sym}

@@ -1,5 +1,4 @@
 -- `selection::window::rows_in` meets its contract.
--- Assumes nothing.
 use Rattle.selection.proofs.WindowLaws.{retrieves-none, retrieves-some}
 use borrow.Author.Needs.{needs}
 use Rattle.selection.proofs.window.rows_in.Statement.{statement}

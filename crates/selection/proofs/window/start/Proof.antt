@@ -1,5 +1,4 @@
 -- `selection::window::start` meets its contract, window by window.
--- Assumes nothing.
 use Rattle.selection.specs.Windows.{startOf}
 use borrow.Author.Needs.{needs}
 use Rattle.selection.proofs.window.start.Statement.{statement}

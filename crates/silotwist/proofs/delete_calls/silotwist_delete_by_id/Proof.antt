@@ -1,5 +1,4 @@
 -- `silotwist::delete_calls::silotwist_delete_by_id` meets its contract.
--- Assumes nothing.
 use Rattle.silotwist.proofs.ScheduleCalls.{changes, changes-no-room, changes-short}
 use mathlib.Core.Path.{refl}
 use borrow.Author.Needs.{needs}

@@ -1,5 +1,4 @@
 -- `silotwist::delete_calls::silotwist_delete_window` meets its contract.
--- Assumes nothing.
 use Rattle.deletions.specs.Deleting.{deleteWindowIn}
 use Rattle.face_reading.specs.Reading.{windowFrom}
 use Rattle.silotwist.proofs.ScheduleCalls.{changes-at, changes-no-room, changes-short}

@@ -1,5 +1,4 @@
 -- `silotwist::insert_calls::silotwist_insert_stored` meets its contract.
--- Assumes nothing.
 use Rattle.gate.specs.Entering.{insertStoredIn}
 use Rattle.silotwist.proofs.ScheduleCalls.{changes-at, changes-no-room, changes-short}
 use Rattle.face_reading.proofs.Seconds.{held-time}

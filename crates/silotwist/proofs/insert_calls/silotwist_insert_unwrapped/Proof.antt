@@ -1,5 +1,4 @@
 -- `silotwist::insert_calls::silotwist_insert_unwrapped` meets its contract.
--- Assumes nothing.
 use Rattle.insertions.specs.Inserting.{insertUnwrappedIn}
 use Rattle.silotwist.proofs.ScheduleCalls.{changes-at, changes-no-room, changes-short}
 use Rattle.face_reading.proofs.Seconds.{held-time}

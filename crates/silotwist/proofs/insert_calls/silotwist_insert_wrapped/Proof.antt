@@ -1,5 +1,4 @@
 -- `silotwist::insert_calls::silotwist_insert_wrapped` meets its contract.
--- Assumes nothing.
 use Rattle.silotwist.proofs.ScheduleCalls.{changes, changes-no-room, changes-short}
 use mathlib.Core.Path.{refl}
 use borrow.Author.Needs.{needs}

@@ -1,5 +1,4 @@
 -- `silotwist::record_calls::mark` meets its contract.
--- Assumes nothing.
 use Rattle.silotwist.proofs.RecordCalls.{mark-face, record-no-room, record-short}
 use borrow.Author.Needs.{needs}
 use Rattle.silotwist.proofs.record_calls.mark.Statement.{statement}

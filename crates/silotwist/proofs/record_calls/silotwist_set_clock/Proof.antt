@@ -1,5 +1,4 @@
 -- `silotwist::record_calls::silotwist_set_clock` meets its contract.
--- Assumes nothing.
 use Rattle.silotwist.proofs.RecordCalls.{clock-face, record-no-room, record-short}
 use mathlib.Core.Path.{ap}
 use mir.Facts.{toZ-ofZ}

@@ -1,5 +1,4 @@
 -- `silotwist::schedule_calls::silotwist_count` meets its contract.
--- Assumes nothing.
 use Rattle.silotwist.proofs.ScheduleCalls.{looks, looks-no-room, looks-short}
 use mathlib.Core.Path.{refl}
 use borrow.Author.Needs.{needs}

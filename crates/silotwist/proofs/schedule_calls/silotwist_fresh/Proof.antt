@@ -1,5 +1,4 @@
 -- `silotwist::schedule_calls::silotwist_fresh` meets its contract.
--- Assumes nothing.
 use Rattle.silotwist.proofs.Resetting.{starts-at}
 use Rattle.silotwist.proofs.ScheduleCalls.{faces-no-room, faces-short}
 use Rattle.face_reading.proofs.Seconds.{held-time}

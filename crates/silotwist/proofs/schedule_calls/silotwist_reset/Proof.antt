@@ -1,5 +1,4 @@
 -- `silotwist::schedule_calls::silotwist_reset` meets its contract.
--- Assumes nothing.
 use Rattle.silotwist.proofs.Resetting.{resets}
 use Rattle.silotwist.proofs.ScheduleCalls.{changes-no-room, changes-short}
 use mathlib.Core.Path.{refl}

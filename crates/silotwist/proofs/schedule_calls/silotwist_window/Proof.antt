@@ -1,5 +1,4 @@
 -- `silotwist::schedule_calls::silotwist_window` meets its contract.
--- Assumes nothing.
 use Rattle.windows.specs.Windowing.{retrieveIn}
 use Rattle.face_reading.specs.Reading.{windowFrom}
 use Rattle.silotwist.proofs.ScheduleCalls.{looks-at, looks-no-room, looks-short}

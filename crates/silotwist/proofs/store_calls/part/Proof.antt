@@ -1,5 +1,4 @@
 -- `silotwist::store_calls::part` meets its contract.
--- Assumes nothing.
 use Rattle.rules.specs.Papers.{says}
 use Rattle.silotwist.proofs.Parting.{part-found, part-refused}
 use Rattle.silotwist.specs.StoreFace.{partIn}

@@ -1,5 +1,4 @@
 -- `silotwist::store_calls::silotwist_store_add` meets its contract.
--- Assumes nothing.
 use Rattle.silotwist.proofs.StoreCalls.{stores, stores-no-room}
 use borrow.Author.Needs.{needs}
 use Rattle.silotwist.proofs.store_calls.silotwist_store_add.Statement.{statement}

@@ -1,5 +1,4 @@
 -- `silotwist::store_calls::silotwist_store_len` meets its contract.
--- Assumes nothing.
 use Rattle.silotwist.proofs.StoreCalls.{asks, asks-no-room}
 use borrow.Author.Needs.{needs}
 use Rattle.silotwist.proofs.store_calls.silotwist_store_len.Statement.{statement}

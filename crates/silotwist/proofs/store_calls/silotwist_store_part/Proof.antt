@@ -1,5 +1,4 @@
 -- `silotwist::store_calls::silotwist_store_part` meets its contract.
--- Assumes nothing.
 use Rattle.silotwist.proofs.StoreCalls.{asks, asks-no-room}
 use mathlib.Core.Path.{refl}
 use borrow.Author.Needs.{needs}

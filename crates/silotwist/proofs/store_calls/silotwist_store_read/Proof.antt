@@ -1,5 +1,4 @@
 -- `silotwist::store_calls::silotwist_store_read` meets its contract.
--- Assumes nothing.
 use Rattle.silotwist.proofs.StoreCalls.{buffers, buffers-no-room}
 use borrow.Author.Needs.{needs}
 use Rattle.silotwist.proofs.store_calls.silotwist_store_read.Statement.{statement}

@@ -1,5 +1,4 @@
 -- `silotwist::tick_call::silotwist_tick` meets its contract.
--- Assumes nothing.
 use Rattle.silotwist.proofs.TickCalls.{ticks, ticks-no-room, ticks-short}
 use mathlib.Core.Path.{refl}
 use borrow.Author.Needs.{needs}

@@ -1,5 +1,4 @@
 -- `slots::search::locate` meets its contract.
--- Assumes nothing.
 use Prim.Native.Nat.{_<_}
 use Rattle.slots.proofs.Place.{found-held, found-invalid, found-vacant, row-inside}
 use lib.ListN.{length}

@@ -1,5 +1,4 @@
 -- `store::judged::would_add` meets its contract: it searches as `add` does.
--- Assumes nothing.
 use Rattle.layout.proofs.Bounds.{bounds}
 use Rattle.store.proofs.Chosen.{Room, add-refused, add-says, room-found}
 use lib.ListN.{length}

@@ -1,5 +1,4 @@
 -- `table_edit::shift::clear` meets its contract. The loop's invariant: as many words are zero as were passed.
--- Assumes nothing.
 use Prim.Native.Nat.{_-_, _≤_}
 use Rattle.table_edit.proofs.Words.{clear-start, clear-step}
 use Rattle.table_edit.specs.Inside.{cleared}

@@ -1,5 +1,4 @@
 -- `table_edit::shift::move_down` meets its contract. The loop's invariant: as many words are moved as were passed.
--- Assumes nothing.
 use Prim.Native.Nat.{_-_, _≤_}
 use Rattle.table_edit.proofs.Words.{down-start, down-step}
 use Rattle.table_edit.specs.Inside.{moved}

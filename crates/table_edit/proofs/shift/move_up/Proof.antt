@@ -1,5 +1,4 @@
 -- `table_edit::shift::move_up` meets its contract. The loop counts down; its invariant says what is still to move.
--- Assumes nothing.
 use Prim.Native.Nat.{_+_, _-_, _≤_, ℕ}
 use Rattle.table_edit.proofs.Words.{up-end, up-start, up-step, upped}
 use denote.Ref.{now}

@@ -1,5 +1,4 @@
 -- `text::out::size` is safe: below 0, -1 - n is a natural number, and one more still fits.
--- Assumes nothing.
 use Rattle.time.proofs.Sign.{down-back, down-casts, down-fits, low-fits, up-casts}
 use native.Mathlib.Omega.{arith}
 use borrow.Author.Needs.{needs}

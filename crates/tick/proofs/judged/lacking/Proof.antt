@@ -1,5 +1,4 @@
 -- `tick::judged::lacking` meets its contract.
--- Assumes nothing.
 use Rattle.tick.proofs.Lacking.{lack-fits, lack-none, lack-short}
 use native.Mathlib.Omega.{arith}
 use borrow.Author.Needs.{needs}

@@ -1,5 +1,4 @@
 -- `tick::judged::tick` meets its contract.
--- Assumes nothing.
 use Rattle.tick.proofs.Ticking.{clock-ok, due-by, few-rows, moment-ok, rows-held, rows-ok, some-rows, store-ok, tick-hands, tick-lacks, tick-short, used-part}
 use native.Mathlib.Omega.{arith}
 use borrow.Author.Needs.{needs}

@@ -1,5 +1,4 @@
 -- `time::Margin::in_range` meets its contract.
--- Assumes nothing.
 use borrow.Author.Tests.{le-leb, lt-leb}
 use Rattle.time.proofs.Margin.in_range.Statement.{statement}
 use Rattle.time.proofs.Margin.in_range.Tie as tie

@@ -1,5 +1,4 @@
 -- `time::Moment::is_before` meets its contract: the tests on the parts are the test on the whole number.
--- Assumes nothing.
 use Prim.Native.Nat.{_<_, _≤_}
 use Rattle.rules.proofs.Cases.{le-or-lt}
 use Rattle.time.specs.Time.{instantOf}

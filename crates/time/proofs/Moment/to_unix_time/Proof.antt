@@ -1,5 +1,4 @@
 -- `time::Moment::to_unix_time` meets its contract.
--- Assumes nothing.
 use Rattle.time.proofs.Signed.{back-fits, pos-back}
 use mir.Facts.{toZ-ofZ}
 use native.Mathlib.Omega.{arith}

@@ -1,5 +1,4 @@
 -- `time::UnixTime::in_range` meets its contract: each signed test says which case of the range holds.
--- Assumes nothing.
 use Rattle.time.proofs.Signed.{too-high, too-low, within}
 use mir.Syntax.{w64}
 use mir.Val.{SFits}

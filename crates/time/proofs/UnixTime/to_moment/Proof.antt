@@ -1,5 +1,4 @@
 -- `time::UnixTime::to_moment` meets its contract: in range, the sum neither wraps nor is negative.
--- Assumes nothing.
 use Rattle.time.proofs.Signed.{biased-le, sum-back, sum-fits}
 use native.Mathlib.Omega.{arith}
 use Rattle.time.proofs.UnixTime.to_moment.Statement.{statement}

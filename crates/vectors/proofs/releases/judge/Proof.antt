@@ -1,5 +1,4 @@
 -- `vectors::releases::judge` is safe: past the three tests clock, margin and release are in range.
--- Assumes nothing.
 use Rattle.time.proofs.Judged.{margin-judged, time-judged}
 use borrow.Author.Tests.{not-false}
 use mathlib.Core.Path.{_∙_, sym}

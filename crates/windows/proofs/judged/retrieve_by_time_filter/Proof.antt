@@ -1,5 +1,4 @@
 -- `windows::judged::retrieve_by_time_filter` meets its contract.
--- Assumes nothing.
 use borrow.Author.Needs.{needs}
 use mathlib.Core.List.{[]}
 use Rattle.rules.specs.Papers.{done}

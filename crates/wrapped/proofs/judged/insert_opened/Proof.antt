@@ -1,5 +1,4 @@
 -- `wrapped::judged::insert_opened` meets its contract.
--- Assumes nothing.
 use Prim.Native.Nat.{ℕ, _<_, _≤_}
 use lib.ListN.{length}
 use mathlib.Core.List.{List}

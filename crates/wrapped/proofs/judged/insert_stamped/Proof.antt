@@ -1,5 +1,4 @@
 -- `wrapped::judged::insert_stamped` meets its contract: a stamp that was read lies within the bytes, and its time is in range.
--- Assumes nothing.
 use Prim.Native.Nat.{_-_, _≤_, ℕ}
 use lib.ListN.{drop, length, length-drop, take}
 use lib.Seq.{take-all}

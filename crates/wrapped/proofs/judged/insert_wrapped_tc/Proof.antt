@@ -1,5 +1,4 @@
 -- `wrapped::judged::insert_wrapped_tc` meets its contract.
--- Assumes nothing.
 use mathlib.Core.Path.{_∙_, sym}
 use borrow.Author.Needs.{needs}
 use Rattle.insertions.specs.Answers.{insertedPaper}
