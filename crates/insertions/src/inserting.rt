@@ -107,7 +107,8 @@ fn refuse_unstored(
     own: ScheduleRefusal,
 ) -> Inserted
     requires { ⌜ StoreSound (setup .store) (now store) (now lens) ⌝ }
-    ensures { λ c. ⌜ (insertedPaper (c .answer) ≡ firstPaper (addIn (setup .store .spill) (view (setup .store) (now (store .entry)) (now (lens .entry))) (now (tc .entry))) own)
+    ensures { λ c. ⌜ (insertedPaper (c .answer)
+        ≡ firstPaper (addIn (setup .store .spill) (view (setup .store) (now (store .entry)) (now (lens .entry))) (now (tc .entry))) own)
         × (c .next ≡ rec) × (now (store .exit) ≡ now (store .entry)) × (now (lens .exit) ≡ now (lens .entry)) ⌝ }
 {
     let s = setup.store;

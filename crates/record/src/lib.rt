@@ -118,7 +118,8 @@ impl Record {
 
 // The three calls that change the caller's record in place. They see the record alone.
 pub fn enable(r: &mut Record) -> Done
-    ensures { λ a. ⌜ (donePaper a ≡ says (markIn true (now (r .entry)))) × (now (r .exit) ≡ after (markIn true (now (r .entry))) (now (r .entry)) (λ x. x)) ⌝ }
+    ensures { λ a. ⌜ (donePaper a ≡ says (markIn true (now (r .entry))))
+        × (now (r .exit) ≡ after (markIn true (now (r .entry))) (now (r .entry)) (λ x. x)) ⌝ }
 {
     let c = Record::marked(*r, true);
     *r = c.next;
@@ -126,7 +127,8 @@ pub fn enable(r: &mut Record) -> Done
 }
 
 pub fn disable(r: &mut Record) -> Done
-    ensures { λ a. ⌜ (donePaper a ≡ says (markIn false (now (r .entry)))) × (now (r .exit) ≡ after (markIn false (now (r .entry))) (now (r .entry)) (λ x. x)) ⌝ }
+    ensures { λ a. ⌜ (donePaper a ≡ says (markIn false (now (r .entry))))
+        × (now (r .exit) ≡ after (markIn false (now (r .entry))) (now (r .entry)) (λ x. x)) ⌝ }
 {
     let c = Record::marked(*r, false);
     *r = c.next;
@@ -134,7 +136,8 @@ pub fn disable(r: &mut Record) -> Done
 }
 
 pub fn set_clock(r: &mut Record, t: UnixTime) -> Done
-    ensures { λ a. ⌜ (donePaper a ≡ says (clockIn t (now (r .entry)))) × (now (r .exit) ≡ after (clockIn t (now (r .entry))) (now (r .entry)) (λ x. x)) ⌝ }
+    ensures { λ a. ⌜ (donePaper a ≡ says (clockIn t (now (r .entry))))
+        × (now (r .exit) ≡ after (clockIn t (now (r .entry))) (now (r .entry)) (λ x. x)) ⌝ }
 {
     let c = Record::clocked(*r, t);
     *r = c.next;

@@ -1,4 +1,5 @@
-// A row of the schedule's table (document 01, module 5): four words of one lent slice, which say when a command is released, its request ID and where its packet lies.
+// A row of the schedule's table (document 01, module 5): four words of one lent slice, which say when a command is released, its request
+// ID and where its packet lies.
 ghost use mathlib.Core.Path.{_≡_};
 ghost use Prim.Native.Nat.{_<_};
 ghost use Rattle.rows.specs.Entries.{row};

@@ -1,4 +1,5 @@
-// Rows selected from the schedule's table (document 01, "Schedule rules"): those of a window of time, and the one that a deletion by request ID takes.
+// Rows selected from the schedule's table (document 01, "Schedule rules"): those of a window of time, and the one that a deletion by
+// request ID takes.
 use time::Moment;
 
 pub mod find;
