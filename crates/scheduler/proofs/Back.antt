@@ -1,4 +1,5 @@
 -- Each refusal of the schedule, and each answer of its calls, found again from its number and values.
+use Rattle.rules.proofs.Back.{answerOf}
 use Prim.Native.Nat.{ℕ}
 use Rattle.deletions.specs.Answers.{clearedPaper, lastPaper}
 use Rattle.by_id.specs.Answers.{freedPaper, takenPaper}
@@ -60,11 +61,11 @@ word-is (negsuc n) = omega arith
 word-back : (z : ℤ) → SFits w64 z → toZ w64 (wordOf z) ≡ z
 word-back z f = ap (toZ w64) (word-is z) ∙ toZ-ofZ f
 
-timeOf : ℕ → ℕ → UnixTime
-timeOf s n = record { secs = toZ w64 s; nanos = n }
+timeBack : ℕ → ℕ → UnixTime
+timeBack s n = record { secs = toZ w64 s; nanos = n }
 
-marginOf : ℕ → ℕ → Margin
-marginOf s n = record { secs = s; nanos = n }
+marginBack : ℕ → ℕ → Margin
+marginBack s n = record { secs = s; nanos = n }
 
 -- the refusal of a number and values; all other numbers are the store's
 refusalOf : ℕ → List ℕ → ScheduleRefusal
@@ -77,7 +78,7 @@ refusalOf n vs =
     (cond (eqb n 9) TcUnreadable
     (cond (eqb n 10) NestedScheduledTc
     (cond (eqb n 13)
-    (ReleaseTimeInTimeMargin (timeOf (getD vs 0 0) (getD vs 1 0)) (marginOf (getD vs 2 0) (getD vs 3 0)) (timeOf (getD vs 4 0) (getD vs 5 0)))
+    (ReleaseTimeInTimeMargin (timeBack (getD vs 0 0) (getD vs 1 0)) (marginBack (getD vs 2 0) (getD vs 3 0)) (timeBack (getD vs 4 0) (getD vs 5 0)))
     (cond (eqb n 14) ScheduleFull
     (cond (eqb n 15) ReversedWindow
     (cond (eqb n 20) (LogTooSmall (getD vs 0 0)) (Store (storeBack (no n vs)))))))))))))
@@ -99,9 +100,9 @@ store-of (DataDoesNotExist a) = refl
 store-of (BufferTooSmall f n) = refl
 
 times-back : (c r : UnixTime) (m : Margin) → SFits w64 (c .secs) → SFits w64 (r .secs)
-    → ReleaseTimeInTimeMargin (timeOf (wordOf (c .secs)) (c .nanos)) (marginOf (m .secs) (m .nanos)) (timeOf (wordOf (r .secs)) (r .nanos))
+    → ReleaseTimeInTimeMargin (timeBack (wordOf (c .secs)) (c .nanos)) (marginBack (m .secs) (m .nanos)) (timeBack (wordOf (r .secs)) (r .nanos))
     ≡ ReleaseTimeInTimeMargin c m r
-unfolding timeOf marginOf
+unfolding timeBack marginBack
 times-back c r m f g = rw (word-back (c .secs) f, word-back (r .secs) g)
 
 pub there-and-back : (e : ScheduleRefusal) → Words e → back (paper e) ≡ e
@@ -121,19 +122,15 @@ there-and-back (LogTooSmall t) w = refl
 
 -- ---- the answers of each call
 
--- an answer is found by its values, a refusal by number and values
-pub answerOf : {A : Type 0} → (List ℕ → A) → (ScheduleRefusal → A) → Paper → A
-answerOf answer refusal p = cond (eqb (p .number) 0) (answer (p .values)) (refusal (back p))
-
 refusal-back : {A : Type 0} (answer : List ℕ → A) (refusal : ScheduleRefusal → A) (e : ScheduleRefusal) → Words e
-    → answerOf answer refusal (paper e) ≡ refusal e
+    → answerOf back answer refusal (paper e) ≡ refusal e
 unfolding answerOf
 refusal-back answer refusal e w = rw (above-zero e, there-and-back e w)
 
 pub doneOf : List ℕ → Done
 doneOf vs = D.Ok
 
-pub done-back : (a : Done) → CarriesWords D.Refused a → answerOf doneOf D.Refused (donePaper a) ≡ a
+pub done-back : (a : Done) → CarriesWords D.Refused a → answerOf back doneOf D.Refused (donePaper a) ≡ a
 unfolding answerOf doneOf donePaper
 done-back D.Ok w = refl
 done-back (D.Refused e) w = refusal-back doneOf D.Refused e (w e refl)
@@ -141,7 +138,7 @@ done-back (D.Refused e) w = refusal-back doneOf D.Refused e (w e refl)
 pub verdictOf : List ℕ → Verdict
 verdictOf vs = Ve.Fine
 
-pub verdict-back : (a : Verdict) → CarriesWords Ve.Refused a → answerOf verdictOf Ve.Refused (verdictPaper a) ≡ a
+pub verdict-back : (a : Verdict) → CarriesWords Ve.Refused a → answerOf back verdictOf Ve.Refused (verdictPaper a) ≡ a
 unfolding answerOf verdictOf verdictPaper
 verdict-back Ve.Fine w = refl
 verdict-back (Ve.Refused e) w = refusal-back verdictOf Ve.Refused e (w e refl)
@@ -149,7 +146,7 @@ verdict-back (Ve.Refused e) w = refusal-back verdictOf Ve.Refused e (w e refl)
 pub countedOf : List ℕ → Counted
 countedOf vs = Co.Count (getD vs 0 0)
 
-pub counted-back : (a : Counted) → CarriesWords Co.Refused a → answerOf countedOf Co.Refused (countedPaper a) ≡ a
+pub counted-back : (a : Counted) → CarriesWords Co.Refused a → answerOf back countedOf Co.Refused (countedPaper a) ≡ a
 unfolding answerOf countedOf countedPaper
 counted-back (Co.Count n) w = refl
 counted-back (Co.Refused e) w = refusal-back countedOf Co.Refused e (w e refl)
@@ -157,7 +154,7 @@ counted-back (Co.Refused e) w = refusal-back countedOf Co.Refused e (w e refl)
 pub retrievedOf : List ℕ → Retrieved
 retrievedOf vs = R.Rows (record { first = getD vs 0 0; number = getD vs 1 0 })
 
-pub retrieved-back : (a : Retrieved) → CarriesWords R.Refused a → answerOf retrievedOf R.Refused (retrievedPaper a) ≡ a
+pub retrieved-back : (a : Retrieved) → CarriesWords R.Refused a → answerOf back retrievedOf R.Refused (retrievedPaper a) ≡ a
 unfolding answerOf retrievedOf retrievedPaper
 retrieved-back (R.Rows x) w = refl
 retrieved-back (R.Refused e) w = refusal-back retrievedOf R.Refused e (w e refl)
@@ -165,7 +162,7 @@ retrieved-back (R.Refused e) w = refusal-back retrievedOf R.Refused e (w e refl)
 pub insertedOf : List ℕ → InsertAnswer
 insertedOf vs = I.Inserted (record { addr = getD vs 0 0; «request_id» = getD vs 1 0 })
 
-pub inserted-back : (a : InsertAnswer) → CarriesWords I.Refused a → answerOf insertedOf I.Refused (insertedPaper a) ≡ a
+pub inserted-back : (a : InsertAnswer) → CarriesWords I.Refused a → answerOf back insertedOf I.Refused (insertedPaper a) ≡ a
 unfolding answerOf insertedOf insertedPaper
 inserted-back (I.Inserted x) w = refl
 inserted-back (I.Refused e) w = refusal-back insertedOf I.Refused e (w e refl)
@@ -184,7 +181,7 @@ tallyOf vs = record { deleted = getD vs 0 0; missing = getD vs 1 0; last = lastO
 pub clearedOf : List ℕ → ClearAnswer
 clearedOf vs = Cl.Done (tallyOf vs)
 
-pub cleared-back : (a : ClearAnswer) → CarriesWords Cl.Refused a → answerOf clearedOf Cl.Refused (clearedPaper a) ≡ a
+pub cleared-back : (a : ClearAnswer) → CarriesWords Cl.Refused a → answerOf back clearedOf Cl.Refused (clearedPaper a) ≡ a
 unfolding answerOf clearedOf clearedPaper tallyOf
 cleared-back (Cl.Done t) w = ap (λ (l : Last). Cl.Done (record { deleted = t .deleted; missing = t .missing; last = l })) (last-back (t .last))
 cleared-back (Cl.Refused e) w = refusal-back clearedOf Cl.Refused e (w e refl)
@@ -193,7 +190,7 @@ cleared-back (Cl.Refused e) w = refusal-back clearedOf Cl.Refused e (w e refl)
 pub takenOf : List ℕ → TakeAnswer
 takenOf vs = cond (eqb (getD vs 0 0) 0) Ta.NoMatch (Ta.Address (getD vs 1 0))
 
-pub taken-back : (a : TakeAnswer) → CarriesWords Ta.Refused a → answerOf takenOf Ta.Refused (takenPaper a) ≡ a
+pub taken-back : (a : TakeAnswer) → CarriesWords Ta.Refused a → answerOf back takenOf Ta.Refused (takenPaper a) ≡ a
 unfolding answerOf takenOf takenPaper
 taken-back Ta.NoMatch w = refl
 taken-back (Ta.Address a) w = refl
@@ -206,7 +203,7 @@ matchOf vs = cond (eqb (getD vs 1 0) 1) F.Deleted (F.Missing (storeBack (no (get
 pub freedOf : List ℕ → FreeAnswer
 freedOf vs = cond (eqb (getD vs 0 0) 0) F.NoMatch (matchOf vs)
 
-pub freed-back : (a : FreeAnswer) → CarriesWords F.Refused a → answerOf freedOf F.Refused (freedPaper a) ≡ a
+pub freed-back : (a : FreeAnswer) → CarriesWords F.Refused a → answerOf back freedOf F.Refused (freedPaper a) ≡ a
 unfolding answerOf freedOf freedPaper matchOf
 freed-back F.NoMatch w = refl
 freed-back F.Deleted w = refl
@@ -216,7 +213,7 @@ freed-back (F.Refused e) w = refusal-back freedOf F.Refused e (w e refl)
 pub tickedOf : List ℕ → TickAnswer
 tickedOf vs = T.HandedOut (record { m = getD vs 0 0; remain = getD vs 1 0 })
 
-pub ticked-back : (a : TickAnswer) → CarriesWords T.Refused a → answerOf tickedOf T.Refused (tickPaper a) ≡ a
+pub ticked-back : (a : TickAnswer) → CarriesWords T.Refused a → answerOf back tickedOf T.Refused (tickPaper a) ≡ a
 unfolding answerOf tickedOf tickPaper
 ticked-back (T.HandedOut h) w = refl
 ticked-back (T.Refused e) w = refusal-back tickedOf T.Refused e (w e refl)

@@ -1,4 +1,5 @@
 -- `paper` is one-to-one: number and values tell every refusal of the schedule, and every answer of its calls, apart.
+use Rattle.rules.proofs.Back.{answerOf}
 use Prim.Native.Nat.{ℕ}
 use Rattle.deletions.specs.Answers.{clearedPaper}
 use Rattle.by_id.specs.Answers.{freedPaper, takenPaper}
@@ -17,7 +18,7 @@ use Rattle.record.specs.declared.ScheduleRefusal.{ScheduleRefusal}
 use Rattle.schedule.specs.Answers.{countedPaper, verdictPaper}
 use Rattle.schedule.specs.declared.Counted.the-variants as Co
 use Rattle.schedule.specs.declared.Verdict.the-variants as Ve
-use Rattle.scheduler.proofs.Back.{answerOf, back, cleared-back, clearedOf, counted-back, countedOf, done-back, doneOf, freed-back, freedOf, inserted-back, insertedOf, retrieved-back, retrievedOf, taken-back, takenOf, there-and-back, ticked-back, tickedOf, verdict-back, verdictOf}
+use Rattle.scheduler.proofs.Back.{back, cleared-back, clearedOf, counted-back, countedOf, done-back, doneOf, freed-back, freedOf, inserted-back, insertedOf, retrieved-back, retrievedOf, taken-back, takenOf, there-and-back, ticked-back, tickedOf, verdict-back, verdictOf}
 use Rattle.scheduler.specs.Words.{CarriesWords, Words}
 use Rattle.tick.specs.declared.TickAnswer.the-variants as T
 use mathlib.Core.List.{List}
@@ -31,8 +32,8 @@ abbrev pub OneToOne : {A : Type 0} → (A → Paper) → (ScheduleRefusal → A)
 OneToOne {A} told refusal = (a b : A) → CarriesWords refusal a → CarriesWords refusal b → told a ≡ told b → a ≡ b
 
 one-by : {A : Type 0} (told : A → Paper) (refusal : ScheduleRefusal → A) (answer : List ℕ → A)
-    → ((a : A) → CarriesWords refusal a → answerOf answer refusal (told a) ≡ a) → OneToOne told refusal
-one-by told refusal answer h a b w v q = sym (h a w) ∙ ap (answerOf answer refusal) q ∙ h b v
+    → ((a : A) → CarriesWords refusal a → answerOf back answer refusal (told a) ≡ a) → OneToOne told refusal
+one-by told refusal answer h a b w v q = sym (h a w) ∙ ap (answerOf back answer refusal) q ∙ h b v
 
 -- a stored insertion, a fresh start, enable, disable, setting the clock
 pub one-done : OneToOne donePaper D.Refused

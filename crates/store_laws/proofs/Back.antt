@@ -1,11 +1,10 @@
--- Each refusal, and an answer that carries one, found again from its number and values.
+-- Each refusal found again from its number and values.
 use Prim.Native.Nat.{ℕ}
 use Rattle.rules.specs.Papers.{Paper}
 use Rattle.lookup.specs.Refusals.{paper}
 use lib.Dec.{eqb}
 use lib.ListN.{getD}
 use mathlib.Core.Bool.{cond}
-use mathlib.Core.List.{List}
 use mathlib.Core.Path.{_≡_, refl}
 use Rattle.slots.specs.declared.StoreRefusal.{StoreRefusal}
 use Rattle.slots.specs.declared.StoreRefusal.the-variants.{BadSetup, BadBuffers, StateDamaged, DataTooLarge, StoreFull, InvalidStoreId, DataDoesNotExist, BufferTooSmall}
@@ -37,7 +36,3 @@ there-and-back (InvalidStoreId (InvalidSubpool k)) = refl
 there-and-back (InvalidStoreId (InvalidPacketIdx k)) = refl
 there-and-back (DataDoesNotExist a) = refl
 there-and-back (BufferTooSmall f n) = refl
-
--- an answer is made of the values, where the number is 0, and else of the refusal
-unfoldable pub answerOf : {A : Type 0} → (List ℕ → A) → (StoreRefusal → A) → Paper → A
-answerOf f refusing p = cond (eqb (p .number) 0) (f (p .values)) (refusing (back p))

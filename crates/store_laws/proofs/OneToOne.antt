@@ -1,8 +1,9 @@
 -- `paper` is one-to-one: number and values tell every refusal, and every answer of a call, apart.
+use Rattle.rules.proofs.Back.{answerOf}
 use Rattle.store.specs.Refusals.{addedPaper, deletedPaper, startedPaper, verdictPaper}
 use Rattle.lookup.specs.Refusals.{lengthPaper, paper, presencePaper}
 use Rattle.lookup.proofs.Numbers.{numbered}
-use Rattle.store_laws.proofs.Back.{answerOf, back, there-and-back}
+use Rattle.store_laws.proofs.Back.{back, there-and-back}
 use lib.Dec.{eqb}
 use lib.ListN.{getD}
 use mathlib.Core.Bool.{false, true}
@@ -27,49 +28,49 @@ one-refusal = LeftInverse·injective back paper there-and-back
 
 pub one-deleted : (r s : Deleted) → deletedPaper r ≡ deletedPaper s → r ≡ s
 unfolding answerOf deletedPaper
-one-deleted = LeftInverse·injective (answerOf (λ vs. D.Done) D.Refused) deletedPaper again
+one-deleted = LeftInverse·injective (answerOf back (λ vs. D.Done) D.Refused) deletedPaper again
   where
-    again : (r : Deleted) → answerOf (λ vs. D.Done) D.Refused (deletedPaper r) ≡ r
+    again : (r : Deleted) → answerOf back (λ vs. D.Done) D.Refused (deletedPaper r) ≡ r
     again D.Done = refl
     again (D.Refused e) = rw (numbered e, there-and-back e)
 
 pub one-added : (r s : Added) → addedPaper r ≡ addedPaper s → r ≡ s
 unfolding answerOf addedPaper
-one-added = LeftInverse·injective (answerOf (λ vs. Ad.At (getD vs 0 0)) Ad.Refused) addedPaper again
+one-added = LeftInverse·injective (answerOf back (λ vs. Ad.At (getD vs 0 0)) Ad.Refused) addedPaper again
   where
-    again : (r : Added) → answerOf (λ vs. Ad.At (getD vs 0 0)) Ad.Refused (addedPaper r) ≡ r
+    again : (r : Added) → answerOf back (λ vs. Ad.At (getD vs 0 0)) Ad.Refused (addedPaper r) ≡ r
     again (Ad.At a) = refl
     again (Ad.Refused e) = rw (numbered e, there-and-back e)
 
 pub one-length : (r s : Length) → lengthPaper r ≡ lengthPaper s → r ≡ s
 unfolding answerOf lengthPaper
-one-length = LeftInverse·injective (answerOf (λ vs. Le.Of (getD vs 0 0)) Le.Refused) lengthPaper again
+one-length = LeftInverse·injective (answerOf back (λ vs. Le.Of (getD vs 0 0)) Le.Refused) lengthPaper again
   where
-    again : (r : Length) → answerOf (λ vs. Le.Of (getD vs 0 0)) Le.Refused (lengthPaper r) ≡ r
+    again : (r : Length) → answerOf back (λ vs. Le.Of (getD vs 0 0)) Le.Refused (lengthPaper r) ≡ r
     again (Le.Of n) = refl
     again (Le.Refused e) = rw (numbered e, there-and-back e)
 
 pub one-presence : (r s : Presence) → presencePaper r ≡ presencePaper s → r ≡ s
 unfolding answerOf presencePaper
-one-presence = LeftInverse·injective (answerOf (λ vs. Pr.Is (eqb (getD vs 0 0) 1)) Pr.Refused) presencePaper again
+one-presence = LeftInverse·injective (answerOf back (λ vs. Pr.Is (eqb (getD vs 0 0) 1)) Pr.Refused) presencePaper again
   where
-    again : (r : Presence) → answerOf (λ vs. Pr.Is (eqb (getD vs 0 0) 1)) Pr.Refused (presencePaper r) ≡ r
+    again : (r : Presence) → answerOf back (λ vs. Pr.Is (eqb (getD vs 0 0) 1)) Pr.Refused (presencePaper r) ≡ r
     again (Pr.Is true) = refl
     again (Pr.Is false) = refl
     again (Pr.Refused e) = rw (numbered e, there-and-back e)
 
 pub one-verdict : (r s : Verdict) → verdictPaper r ≡ verdictPaper s → r ≡ s
 unfolding answerOf verdictPaper
-one-verdict = LeftInverse·injective (answerOf (λ vs. Ve.Fine) Ve.Refused) verdictPaper again
+one-verdict = LeftInverse·injective (answerOf back (λ vs. Ve.Fine) Ve.Refused) verdictPaper again
   where
-    again : (r : Verdict) → answerOf (λ vs. Ve.Fine) Ve.Refused (verdictPaper r) ≡ r
+    again : (r : Verdict) → answerOf back (λ vs. Ve.Fine) Ve.Refused (verdictPaper r) ≡ r
     again Ve.Fine = refl
     again (Ve.Refused e) = rw (numbered e, there-and-back e)
 
 pub one-started : (r s : Started) → startedPaper r ≡ startedPaper s → r ≡ s
 unfolding answerOf startedPaper
-one-started = LeftInverse·injective (answerOf (λ vs. St.Done) St.Refused) startedPaper again
+one-started = LeftInverse·injective (answerOf back (λ vs. St.Done) St.Refused) startedPaper again
   where
-    again : (r : Started) → answerOf (λ vs. St.Done) St.Refused (startedPaper r) ≡ r
+    again : (r : Started) → answerOf back (λ vs. St.Done) St.Refused (startedPaper r) ≡ r
     again St.Done = refl
     again (St.Refused e) = rw (numbered e, there-and-back e)
