@@ -1,7 +1,6 @@
 -- `schedule_public::deleting::delete_by_request_id_and_from_pool` meets its contract.
 use borrow.Author.Needs.{needs}
 use Rattle.by_id.specs.Answers.{freedPaper}
-use Rattle.by_id.specs.ById.{deleteByIdIn}
 use Rattle.schedule.proofs.Judging.{sound-by}
 use Rattle.schedule.proofs.Promises.{writes, writes-refused}
 use Rattle.schedule_public.proofs.deleting.delete_by_request_id_and_from_pool.Statement.{statement}
@@ -11,25 +10,20 @@ delete-by-request-id-and-from-pool-requires : tie.Need-delete-by-request-id-and-
 delete-by-request-id-and-from-pool-requires c κs =
     let t = c .before .before .before in
     let j = t .before .before in
-    let a = j .before .before .before .before .before .before .before .args in
-    sound-by (a .setup) (a .rec) (a .store .now) (a .lens .now) (a .rows .now) _ (j .judge .ensures) (t .enum-told .given .1)
+    sound-by _ _ _ _ _ _ (j .judge .ensures) (t .enum-told .given .1)
 
 returns : tie.Need-returns
 unfolding freedPaper
 returns c =
     let j = c .before .before .before in
-    let a = j .before .before .before .before .before .before .before .args in
-    writes-refused (a .setup) (a .rec) (a .store .now) (a .lens .now) (a .rows .now) (deleteByIdIn (a .request-id)) _ _
-    (j .judge .ensures) (c .before .j .given .1)
+    writes-refused _ _ _ _ _ _ _ _ (j .judge .ensures) (c .before .j .given .1)
 
 returns-2 : tie.Need-returns-2
 returns-2 c =
     let x = c .before .before .before .before .before .before in
     let t = x .before .before .before .before in
     let j = t .before .before in
-    let a = j .before .before .before .before .before .before .before .args in
-    writes (a .setup) (a .rec) (a .store .now) (a .lens .now) (a .rows .now) (deleteByIdIn (a .request-id)) _ _ _ _ _
-    (sound-by (a .setup) (a .rec) (a .store .now) (a .lens .now) (a .rows .now) _ (j .judge .ensures) (t .enum-told .given .1))
+    writes _ _ _ _ _ _ _ _ _ _ _ (sound-by _ _ _ _ _ _ (j .judge .ensures) (t .enum-told .given .1))
     (x .delete-by-request-id-and-from-pool .ensures)
 
 pub delete-by-request-id-and-from-pool-spec : {M : Type 1} → statement M

@@ -1,7 +1,6 @@
 -- `schedule_public::deleting::delete_by_time_filter` meets its contract.
 use borrow.Author.Needs.{needs}
 use Rattle.deletions.specs.Answers.{clearedPaper}
-use Rattle.deletions.specs.Deleting.{deleteWindowIn}
 use Rattle.schedule.proofs.Judging.{sound-by}
 use Rattle.schedule.proofs.Promises.{writes, writes-refused}
 use Rattle.schedule_public.proofs.deleting.delete_by_time_filter.Statement.{statement}
@@ -10,23 +9,18 @@ use Rattle.schedule_public.proofs.deleting.delete_by_time_filter.Tie as
 delete-by-time-filter-requires : tie.Need-delete-by-time-filter-requires
 delete-by-time-filter-requires c κs =
     let j = c .before .before .before .before .before in
-    let a = j .before .before .before .before .before .before .before .args in
-    sound-by (a .setup) (a .rec) (a .store .now) (a .lens .now) (a .rows .now) _ (j .judge .ensures) (c .before .before .before .enum-told .given .1)
+    sound-by _ _ _ _ _ _ (j .judge .ensures) (c .before .before .before .enum-told .given .1)
 
 returns : tie.Need-returns
 unfolding clearedPaper
 returns c =
     let j = c .before .before .before in
-    let a = j .before .before .before .before .before .before .before .args in
-    writes-refused (a .setup) (a .rec) (a .store .now) (a .lens .now) (a .rows .now) (deleteWindowIn (a .w)) _ _
-    (j .judge .ensures) (c .before .j .given .1)
+    writes-refused _ _ _ _ _ _ _ _ (j .judge .ensures) (c .before .j .given .1)
 
 returns-2 : tie.Need-returns-2
 returns-2 c =
     let j = c .before .before .before .before .before .before .before .before .before .before .before .before in
-    let a = j .before .before .before .before .before .before .before .args in
-    writes (a .setup) (a .rec) (a .store .now) (a .lens .now) (a .rows .now) (deleteWindowIn (a .w)) _ _ _ _ _
-    (sound-by (a .setup) (a .rec) (a .store .now) (a .lens .now) (a .rows .now) _ (j .judge .ensures)
+    writes _ _ _ _ _ _ _ _ _ _ _ (sound-by _ _ _ _ _ _ (j .judge .ensures)
     (c .before .before .before .before .before .before .before .before .before .before .enum-told .given .1))
     (c .before .before .before .before .before .before .delete-by-time-filter .ensures)
 

@@ -1,7 +1,6 @@
 -- `schedule_public::inserting::insert_unwrapped_and_stored_tc` meets its contract.
 use borrow.Author.Needs.{needs}
 use Rattle.record.specs.Refusals.{donePaper}
-use Rattle.gate.specs.Entering.{insertStoredIn}
 use Rattle.schedule.proofs.Judging.{sound-by}
 use Rattle.schedule.proofs.Promises.{writes, writes-refused}
 use Rattle.schedule_public.proofs.inserting.insert_unwrapped_and_stored_tc.Statement.{statement}
@@ -10,26 +9,19 @@ use Rattle.schedule_public.proofs.inserting.insert_unwrapped_and_stored
 insert-unwrapped-and-stored-tc-requires : tie.Need-insert-unwrapped-and-stored-tc-requires
 insert-unwrapped-and-stored-tc-requires c κs =
     let j = c .before .before .before in
-    let a = j .before .before .before .before .before .args in
-    sound-by (a .setup) (a .rec) (a .store .now) (a .lens .now) (a .rows .now) _ (j .judge .ensures) (c .before .enum-told .given .1)
+    sound-by _ _ _ _ _ _ (j .judge .ensures) (c .before .enum-told .given .1)
 
 returns : tie.Need-returns
 unfolding donePaper
 returns c =
     let j = c .before .before .before in
-    let a = j .before .before .before .before .before .args in
-    writes-refused (a .setup) (a .rec) (a .store .now) (a .lens .now) (a .rows .now)
-    (insertStoredIn (a .setup) (a .release) (a .request-id) (a .addr)) _ _
-    (j .judge .ensures) (c .before .j .given .1)
+    writes-refused _ _ _ _ _ _ _ _ (j .judge .ensures) (c .before .j .given .1)
 
 returns-2 : tie.Need-returns-2
 returns-2 c =
     let t = c .before .before .before .before in
     let j = t .before .before in
-    let a = j .before .before .before .before .before .args in
-    writes (a .setup) (a .rec) (a .store .now) (a .lens .now) (a .rows .now)
-    (insertStoredIn (a .setup) (a .release) (a .request-id) (a .addr)) _ _ _ _ _
-    (sound-by (a .setup) (a .rec) (a .store .now) (a .lens .now) (a .rows .now) _ (j .judge .ensures) (t .enum-told .given .1))
+    writes _ _ _ _ _ _ _ _ _ _ _ (sound-by _ _ _ _ _ _ (j .judge .ensures) (t .enum-told .given .1))
     (c .before .before .insert-unwrapped-and-stored-tc .ensures)
 
 pub insert-unwrapped-and-stored-tc-spec : {M : Type 1} → statement M

@@ -1,7 +1,6 @@
 -- `schedule_public::inserting::insert_wrapped_tc` meets its contract.
 use borrow.Author.Needs.{needs}
 use Rattle.insertions.specs.Answers.{insertedPaper}
-use Rattle.wrapped.specs.Wrapped.{insertWrappedIn}
 use Rattle.schedule.proofs.Judging.{sound-by}
 use Rattle.schedule.proofs.Promises.{writes, writes-refused}
 use Rattle.schedule_public.proofs.inserting.insert_wrapped_tc.Statement.{statement}
@@ -11,27 +10,21 @@ insert-wrapped-tc-requires : tie.Need-insert-wrapped-tc-requires
 insert-wrapped-tc-requires c κs =
     let t = c .before .before .before in
     let j = t .before .before in
-    let a = j .before .before .before .before .before .before .before .before .args in
-    sound-by (a .setup) (a .rec) (a .store .now) (a .lens .now) (a .rows .now) _ (j .judge .ensures) (t .enum-told .given .1)
+    sound-by _ _ _ _ _ _ (j .judge .ensures) (t .enum-told .given .1)
 
 returns : tie.Need-returns
 unfolding insertedPaper
 returns c =
     let k = c .before .before in
     let j = k .before .before in
-    let a = j .before .before .before .before .before .before .before .before .args in
-    rw (c .refuse .ensures .0, c .refuse .ensures .1)
-    (writes-refused (a .setup) (a .rec) (a .store .now) (a .lens .now) (a .rows .now) (insertWrappedIn (a .setup) (a .outer .now))
-    _ _ (j .judge .ensures) (k .j .given .1))
+    rw (c .refuse .ensures .0, c .refuse .ensures .1) (writes-refused _ _ _ _ _ _ _ _ (j .judge .ensures) (k .j .given .1))
 
 returns-2 : tie.Need-returns-2
 returns-2 c =
     let x = c .before .before .before .before .before .before in
     let t = x .before .before .before .before in
     let j = t .before .before in
-    let a = j .before .before .before .before .before .before .before .before .args in
-    writes (a .setup) (a .rec) (a .store .now) (a .lens .now) (a .rows .now) (insertWrappedIn (a .setup) (a .outer .now)) _ _ _ _ _
-    (sound-by (a .setup) (a .rec) (a .store .now) (a .lens .now) (a .rows .now) _ (j .judge .ensures) (t .enum-told .given .1))
+    writes _ _ _ _ _ _ _ _ _ _ _ (sound-by _ _ _ _ _ _ (j .judge .ensures) (t .enum-told .given .1))
     (x .insert-wrapped-tc .ensures)
 
 pub insert-wrapped-tc-spec : {M : Type 1} → statement M
