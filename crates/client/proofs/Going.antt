@@ -2,14 +2,11 @@
 use Prim.Native.Nat.{_+_, _<_, _≤_, ℕ}
 use Rattle.client.specs.Answers.{oneIfDone}
 use Rattle.client.specs.Sweep.{countAll, one, sweepIn, withoutOne, withoutAll}
-use Rattle.rules.specs.Papers.{Paper, after, done, no, says}
+use Rattle.rules.specs.Papers.{after, no, says}
 use Rattle.store.proofs.Laid.{leaves-as, leaves-now, leaves-same, leaves-then}
-use Rattle.lookup.proofs.Numbers.{not-done}
 use Rattle.store.specs.Calls.{deleteIn}
-use Rattle.lookup.specs.Calls.{ifHeld, ifNamed}
 use Rattle.layout.specs.Judge.{Sound}
-use Rattle.slots.specs.Pools.{Found, Pool, find, held, noPool, noSlot, vacant}
-use Rattle.store.specs.Edits.{edit, wipe}
+use Rattle.slots.specs.Pools.{Pool}
 use Rattle.store.specs.Promise.{Does}
 use Rattle.store.specs.Refusals.{deletedPaper}
 use Rattle.slots.specs.View.{Leaves, view}
@@ -23,6 +20,7 @@ use native.Mathlib.Omega.{arith}
 use Rattle.layout.specs.declared.Setup.{Setup}
 use Rattle.store.specs.declared.Deleted.{Deleted}
 use Rattle.store.specs.declared.Deleted.the-variants as D
+use Rattle.store_laws.proofs.Numbers.{by-deleted}
 
 pub record Going (su : Setup) (st₀ le₀ addrs st le : List ℕ) (gone i : ℕ) : Type 0 where
   pub at-most : i ≤ length addrs
@@ -39,19 +37,8 @@ going-first su st le addrs s =
 
 -- the answer tells whether the packet was there
 pub count-is : (ps : List Pool) (a : ℕ) (r : Deleted) → deletedPaper r ≡ says (deleteIn ps a) → oneIfDone r ≡ one ps a
-unfolding deletedPaper deleteIn one after says ifHeld ifNamed
-count-is ps a r q = go (find ps a) r q
-  where
-    go : (x : Found) (r : Deleted) → deletedPaper r ≡ says (ifHeld a x (λ n b. done [] (edit wipe ps a)))
-        → oneIfDone r ≡ after (ifHeld a x (λ n b. done [] (edit wipe ps a))) 0 (λ qs. 1)
-    go noPool D.Done q = let z : _≡_ {A = ℕ} 0 16 = ap (λ (p : Paper). p .number) q in absurd (omega arith)
-    go noSlot D.Done q = let z : _≡_ {A = ℕ} 0 17 = ap (λ (p : Paper). p .number) q in absurd (omega arith)
-    go vacant D.Done q = let z : _≡_ {A = ℕ} 0 18 = ap (λ (p : Paper). p .number) q in absurd (omega arith)
-    go (held n b) D.Done q = refl
-    go noPool (D.Refused e) q = refl
-    go noSlot (D.Refused e) q = refl
-    go vacant (D.Refused e) q = refl
-    go (held n b) (D.Refused e) q = absurd (not-done e [] q)
+unfolding one after
+count-is ps a r q = by-deleted (λ o r. oneIfDone r ≡ after o 0 (λ qs. 1)) ps a r q (λ e. refl) (λ vs qs. refl)
 
 pub going-next : (su : Setup) (st₀ le₀ addrs st le : List ℕ) (gone i : ℕ) → Going su st₀ le₀ addrs st le gone i → i < length addrs
     → (r : Deleted) (o : ℕ) (st′ le′ : List ℕ)
