@@ -22,8 +22,8 @@ itemIn log at end =
     }
 
 -- what an item says of the log that it was found in
-abbrev pub recordOf : List ℕ → Item → LogRecord
-recordOf log it =
+abbrev pub itemRecord : List ℕ → Item → LogRecord
+itemRecord log it =
     record {
       flag = it .flag;
       id = it .id;

@@ -8,20 +8,20 @@ use Rattle.record.specs.Refusals.{paper}
 use Rattle.record.specs.declared.ScheduleRefusal.{ScheduleRefusal}
 use Rattle.record.specs.declared.ScheduleRefusal.the-variants.{BadTime, BadTimestamp, LogTooSmall, NestedScheduledTc, ReleaseTimeInTimeMargin, ReversedWindow, ScheduleFull, Store, TcDataEmpty, TcUnreadable, WrongService, WrongSubservice}
 
-pub above-zero : (e : ScheduleRefusal) → eqb (paper e .number) 0 ≡ false
+pub numbered : (e : ScheduleRefusal) → eqb (paper e .number) 0 ≡ false
 unfolding paper
-above-zero (Store e) = store-numbered e
-above-zero BadTime = refl
-above-zero (WrongService n) = refl
-above-zero (WrongSubservice n) = refl
-above-zero TcDataEmpty = refl
-above-zero BadTimestamp = refl
-above-zero TcUnreadable = refl
-above-zero NestedScheduledTc = refl
-above-zero (ReleaseTimeInTimeMargin c m r) = refl
-above-zero ScheduleFull = refl
-above-zero ReversedWindow = refl
-above-zero (LogTooSmall t) = refl
+numbered (Store e) = store-numbered e
+numbered BadTime = refl
+numbered (WrongService n) = refl
+numbered (WrongSubservice n) = refl
+numbered TcDataEmpty = refl
+numbered BadTimestamp = refl
+numbered TcUnreadable = refl
+numbered NestedScheduledTc = refl
+numbered (ReleaseTimeInTimeMargin c m r) = refl
+numbered ScheduleFull = refl
+numbered ReversedWindow = refl
+numbered (LogTooSmall t) = refl
 
-pub numbered : (e : ScheduleRefusal) → paper e .number ≡ 0 → ⊥
-numbered e q = eqb-false (paper e .number) 0 (above-zero e) q
+pub has-number : (e : ScheduleRefusal) → paper e .number ≡ 0 → ⊥
+has-number e q = eqb-false (paper e .number) 0 (numbered e) q

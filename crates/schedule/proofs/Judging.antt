@@ -4,7 +4,7 @@ use lib.ListN.{length}
 use mathlib.Core.Bool.{false, true}
 use mathlib.Core.List.{List}
 use mathlib.Core.Path.{_≡_, _∙_, ap, sym}
-use Rattle.record.proofs.Numbers.{numbered}
+use Rattle.record.proofs.Numbers.{has-number}
 use Rattle.record.specs.Refusals.{paper}
 use Rattle.record.specs.declared.Record.{Record}
 use Rattle.record.specs.declared.ScheduleRefusal.{ScheduleRefusal}
@@ -55,4 +55,4 @@ module _ (su : Setup) (r : Record) (st le ro : List ℕ) where
   unfolding judging verdictPaper
   judging-refused call v e j q =
       one-failed (setupOk su) (buffersOk su (length st) (length le) (length ro)) (stateOk su r le ro) (call (stateOf su r st le ro)) (paper e)
-      (numbered e) (ap verdictPaper (sym q) ∙ j)
+      (has-number e) (ap verdictPaper (sym q) ∙ j)

@@ -19,7 +19,7 @@ use Rattle.deletions.specs.declared.Tally.{Tally}
 use Rattle.insertions.specs.Answers.{insertedPaper}
 use Rattle.insertions.specs.declared.InsertAnswer.the-variants as I
 use Rattle.insertions.specs.declared.InsertAnswer.{InsertAnswer}
-use Rattle.record.proofs.Numbers.{above-zero}
+use Rattle.record.proofs.Numbers.{numbered}
 use Rattle.record.specs.Refusals.{donePaper, paper, wordOf}
 use Rattle.record.specs.declared.Done.the-variants as D
 use Rattle.record.specs.declared.Done.{Done}
@@ -125,7 +125,7 @@ there-and-back (LogTooSmall t) w = refl
 refusal-back : {A : Type 0} (answer : List ℕ → A) (refusal : ScheduleRefusal → A) (e : ScheduleRefusal) → Words e
     → answerOf back answer refusal (paper e) ≡ refusal e
 unfolding answerOf
-refusal-back answer refusal e w = rw (above-zero e, there-and-back e w)
+refusal-back answer refusal e w = rw (numbered e, there-and-back e w)
 
 pub doneOf : List ℕ → Done
 doneOf vs = D.Ok

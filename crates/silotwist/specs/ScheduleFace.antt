@@ -39,7 +39,7 @@ resetWritten rw s = set (set rw 0 (length (s .entries))) 5 0
 abbrev pub allWritten : List ℕ → State → List ℕ
 allWritten rw s = length (s .entries) ∷ timeWords (s .clock) (marginWords (s .margin) (bit (s .enabled) ∷ drop recordWords rw))
 
--- what a call that writes promises; k is how many rows the entries had before
+-- what a call that writes promises; of the rows the first k held entries: as many as the record counted, and of a fresh start all of the setup
 pub record ScheduleFaces (sw : List ℕ) (k : ℕ) (o : Outcome State) (written : State → List ℕ) (rw st le ro an : List ℕ) (n : ℕ)
     (rw′ st′ le′ ro′ an′ : List ℕ) : Type 0 where
   pub answer : Answers o an n an′

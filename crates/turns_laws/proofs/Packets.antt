@@ -1,4 +1,5 @@
 -- No packet of a judged store is longer than its largest slot, and no turn makes one longer.
+use Rattle.layout.proofs.Cases.{SlotCase, has-slot, no-pool, no-slot, slot-case}
 use Prim.Native.Nat.{_+_, _-_, _<_, _≤_, suc, zero, ℕ}
 use Rattle.layout.proofs.Bounds.{bounds, setup-rising}
 use Rattle.slots.proofs.Find.{find-held, find-no-pool, find-no-slot, find-vacant}
@@ -11,8 +12,8 @@ use Rattle.store.specs.Edits.{editAt, editSlot, wipe}
 use Rattle.slots.specs.View.{bytesAt, view}
 use Rattle.turn.specs.Turns.{leave, need, packetOf}
 use Rattle.turns_laws.specs.Draining.{largestSlot}
-use borrow.Author.Tests.{eqb-false, eqb-true, ltb-false, ltb-true}
-use lib.Dec.{eqb, ltb}
+use borrow.Author.Tests.{eqb-false, eqb-true}
+use lib.Dec.{eqb}
 use lib.ListN.{getD, length, length-take}
 use mathlib.Core.Bool.{Bool, false, true}
 use mathlib.Core.List.{List, [], _∷_}
@@ -66,12 +67,10 @@ module _ (su : Setup) (st le : List ℕ) (s : Sound su st le) where
 
   pub sound-short : Short (largestSlot su) (view su st le)
   unfolding Short
-  sound-short k i = go (ltb k (su .pools)) refl (ltb i (slotsAt su k)) refl
+  sound-short k i = go (slot-case su k i)
     where
-      go : (b : Bool) → ltb k (su .pools) ≡ b → (d : Bool) → ltb i (slotsAt su k) ≡ d
-          → length (packetOf (findAt (view su st le) k i)) ≤ largestSlot su
-      go false p d q = rw (find-no-pool su st le k i (ltb-false _ _ p)) (omega arith)
-      go true p false q = rw (find-no-slot su st le k i (ltb-true _ _ p) (ltb-false _ _ q)) (omega arith)
-      go true p true q =
-          let l : k < su .pools = ltb-true _ _ p in
-          omega (arith, in-slot k i l (ltb-true _ _ q), setup-rising su (s .setup) k (su .pools - 1) (omega arith) (omega arith))
+      go : SlotCase su k i → length (packetOf (findAt (view su st le) k i)) ≤ largestSlot su
+      go (no-pool l) = rw (find-no-pool su st le k i l) (omega arith)
+      go (no-slot l m) = rw (find-no-slot su st le k i l m) (omega arith)
+      go (has-slot l m) =
+          omega (arith, in-slot k i l m, setup-rising su (s .setup) k (su .pools - 1) (omega arith) (omega arith))

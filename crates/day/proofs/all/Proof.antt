@@ -1,4 +1,4 @@
--- `day::all` meets its contract.
+-- `day::all` is safe.
 use mathlib.Core.Path.{_≡_}
 use lib.ListN.{length}
 use Prim.Native.Nat.{_-_, _≤_}

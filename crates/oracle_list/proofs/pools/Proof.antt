@@ -1,4 +1,4 @@
--- `oracle_list::pools` meets its contract.
+-- `oracle_list::pools` is safe.
 use Prim.Native.Nat.{_-_, _≤_}
 use borrow.Author.Needs.{needs}
 use Rattle.oracle_list.proofs.pools.Statement.{statement}

@@ -1,4 +1,4 @@
--- `oracle_list::replay` meets its contract.
+-- `oracle_list::replay` is safe.
 use Prim.Native.Nat.{_+_, _-_, _≤_}
 use lib.ListN.{length}
 use mathlib.Core.Path.{_≡_}

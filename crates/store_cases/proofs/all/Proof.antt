@@ -1,4 +1,4 @@
--- `store_cases::all` meets its contract.
+-- `store_cases::all` is safe.
 use mathlib.Core.Path.{_≡_}
 use lib.ListN.{length}
 use Prim.Native.Nat.{_-_, _≤_}

@@ -1,4 +1,4 @@
--- `tick_cases::all` meets its contract.
+-- `tick_cases::all` is safe.
 use Prim.Native.Nat.{_-_, _≤_}
 use lib.ListN.{length}
 use borrow.Author.Needs.{needs}

@@ -1,4 +1,4 @@
--- `vectors::all` meets its contract.
+-- `vectors::all` is safe.
 use lib.ListN.{length}
 use Prim.Native.Nat.{_-_, _≤_}
 use borrow.Author.Needs.{needs}

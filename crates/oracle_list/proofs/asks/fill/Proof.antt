@@ -1,4 +1,4 @@
--- `oracle_list::asks::fill` meets its contract.
+-- `oracle_list::asks::fill` is safe.
 use Prim.Native.Nat.{_-_, _≤_}
 use lib.ListN.{length, length-set}
 use mathlib.Core.Path.{_≡_}

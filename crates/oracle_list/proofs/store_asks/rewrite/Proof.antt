@@ -1,4 +1,4 @@
--- `oracle_list::store_asks::rewrite` meets its contract.
+-- `oracle_list::store_asks::rewrite` is safe.
 use Prim.Native.Nat.{_+_, _-_, _≤_}
 use lib.ListN.{length}
 use mathlib.Core.Path.{_≡_}

@@ -1,4 +1,4 @@
--- `oracle_list::tally::table` meets its contract.
+-- `oracle_list::tally::table` is safe.
 use Prim.Native.Nat.{_-_, _≤_}
 use borrow.Author.Needs.{needs}
 use Rattle.oracle_list.proofs.tally.table.Statement.{statement}

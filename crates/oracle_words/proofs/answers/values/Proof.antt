@@ -1,4 +1,4 @@
--- `oracle_words::answers::values` meets its contract.
+-- `oracle_words::answers::values` is safe.
 use Prim.Native.Nat.{_-_, _≤_}
 use borrow.Author.Needs.{needs}
 use Rattle.oracle_words.proofs.answers.values.Statement.{statement}

@@ -1,4 +1,4 @@
--- `oracle_words::records::big` meets its contract.
+-- `oracle_words::records::big` is safe.
 use Prim.Native.Nat.{_≤_}
 use borrow.Author.Needs.{needs}
 use Rattle.oracle_words.proofs.records.big.Statement.{statement}

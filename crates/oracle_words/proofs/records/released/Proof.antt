@@ -1,4 +1,4 @@
--- `oracle_words::records::released` meets its contract.
+-- `oracle_words::records::released` is safe.
 use Prim.Native.Nat.{_≤_}
 use borrow.Author.Needs.{needs}
 use Rattle.oracle_words.proofs.records.released.Statement.{statement}

@@ -1,4 +1,4 @@
--- `oracle_words::slots::pool` meets its contract.
+-- `oracle_words::slots::pool` is safe.
 use Prim.Native.Nat.{_≤_}
 use borrow.Author.Needs.{needs}
 use Rattle.oracle_words.proofs.slots.pool.Statement.{statement}

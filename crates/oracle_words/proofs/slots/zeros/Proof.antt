@@ -1,4 +1,4 @@
--- `oracle_words::slots::zeros` meets its contract.
+-- `oracle_words::slots::zeros` is safe.
 use Prim.Native.Nat.{_-_, _≤_}
 use lib.ListN.{length}
 use borrow.Author.Needs.{needs}

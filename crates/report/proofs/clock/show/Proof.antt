@@ -1,4 +1,4 @@
--- `report::clock::show` meets its contract.
+-- `report::clock::show` is safe.
 use mathlib.Core.Path.{_∙_, sym}
 use Rattle.time.proofs.Judged.{time-judged}
 use borrow.Author.Needs.{needs}

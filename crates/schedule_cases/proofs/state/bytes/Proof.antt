@@ -1,4 +1,4 @@
--- `schedule_cases::state::bytes` meets its contract.
+-- `schedule_cases::state::bytes` is safe.
 use Prim.Native.Nat.{_-_, _≤_}
 use lib.ListN.{length}
 use borrow.Author.Needs.{needs}

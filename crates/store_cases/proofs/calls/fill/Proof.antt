@@ -1,4 +1,4 @@
--- `store_cases::calls::fill` meets its contract.
+-- `store_cases::calls::fill` is safe.
 use mathlib.Core.Path.{_≡_}
 use lib.ListN.{length}
 use Prim.Native.Nat.{_-_, _≤_}

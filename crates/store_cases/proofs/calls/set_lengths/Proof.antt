@@ -1,4 +1,4 @@
--- `store_cases::calls::set_lengths` meets its contract.
+-- `store_cases::calls::set_lengths` is safe.
 use mathlib.Core.Path.{_≡_}
 use lib.ListN.{length, length-set}
 use Prim.Native.Nat.{_-_, _≤_}

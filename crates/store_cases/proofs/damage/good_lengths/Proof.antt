@@ -1,4 +1,4 @@
--- `store_cases::damage::good_lengths` meets its contract.
+-- `store_cases::damage::good_lengths` is safe.
 use Prim.Native.Nat.{_-_, _≤_}
 use borrow.Author.Needs.{needs}
 use Rattle.store_cases.proofs.damage.good_lengths.Statement.{statement}

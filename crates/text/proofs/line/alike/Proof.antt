@@ -1,4 +1,4 @@
--- `text::line::alike` meets its contract.
+-- `text::line::alike` is safe.
 use Prim.Native.Nat.{_-_, _≤_}
 use borrow.Author.Needs.{needs}
 use Rattle.text.proofs.line.alike.Statement.{statement}

@@ -1,4 +1,4 @@
--- `text::line::which` meets its contract.
+-- `text::line::which` is safe.
 use Prim.Native.Nat.{_-_, _≤_}
 use lib.ListN.{length}
 use borrow.Author.Needs.{needs}

@@ -1,4 +1,4 @@
--- `text::out::bytes` meets its contract.
+-- `text::out::bytes` is safe.
 use Prim.Native.Nat.{_-_}
 use lib.ListN.{length}
 use borrow.Author.Needs.{needs}

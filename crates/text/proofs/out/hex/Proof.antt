@@ -1,4 +1,4 @@
--- `text::out::hex` meets its contract.
+-- `text::out::hex` is safe.
 use Prim.Native.Nat.{_-_}
 use lib.ListN.{length}
 use borrow.Author.Needs.{needs}

@@ -1,4 +1,4 @@
--- `text::out::numbers16` meets its contract.
+-- `text::out::numbers16` is safe.
 use Prim.Native.Nat.{_-_}
 use lib.ListN.{length}
 use borrow.Author.Needs.{needs}

@@ -1,4 +1,4 @@
--- `text::out::numbers8` meets its contract.
+-- `text::out::numbers8` is safe.
 use Prim.Native.Nat.{_-_}
 use lib.ListN.{length}
 use borrow.Author.Needs.{needs}

@@ -1,4 +1,4 @@
--- `text::out::rows` meets its contract.
+-- `text::out::rows` is safe.
 use Prim.Native.Nat.{_-_}
 use lib.ListN.{length}
 use borrow.Author.Needs.{needs}

@@ -1,4 +1,4 @@
--- `text::same::bytes` meets its contract.
+-- `text::same::bytes` is safe.
 use Prim.Native.Nat.{_-_}
 use lib.ListN.{length}
 use borrow.Author.Needs.{needs}

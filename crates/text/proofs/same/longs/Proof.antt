@@ -1,4 +1,4 @@
--- `text::same::longs` meets its contract.
+-- `text::same::longs` is safe.
 use Prim.Native.Nat.{_-_}
 use lib.ListN.{length}
 use borrow.Author.Needs.{needs}

@@ -1,4 +1,4 @@
--- `text::same::shorts` meets its contract.
+-- `text::same::shorts` is safe.
 use Prim.Native.Nat.{_-_}
 use lib.ListN.{length}
 use borrow.Author.Needs.{needs}

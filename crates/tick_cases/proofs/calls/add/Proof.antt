@@ -1,4 +1,4 @@
--- `tick_cases::calls::add` meets its contract.
+-- `tick_cases::calls::add` is safe.
 use Prim.Native.Nat.{_-_, _≤_}
 use lib.ListN.{length}
 use mathlib.Core.Path.{_≡_}

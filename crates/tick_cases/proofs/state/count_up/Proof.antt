@@ -1,4 +1,4 @@
--- `tick_cases::state::count_up` meets its contract.
+-- `tick_cases::state::count_up` is safe.
 use Prim.Native.Nat.{_-_, _<_, _≤_}
 use lib.ListN.{length, length-set}
 use mathlib.Core.Path.{_≡_}

@@ -1,4 +1,4 @@
--- `tick_cases::state::written` meets its contract.
+-- `tick_cases::state::written` is safe.
 use Prim.Native.Nat.{_≤_}
 use lib.ListN.{length}
 use borrow.Author.Needs.{needs}

@@ -1,4 +1,4 @@
--- `vectors::codes::row` meets its contract.
+-- `vectors::codes::row` is safe.
 use Prim.Native.Nat.{_-_}
 use borrow.Author.Needs.{needs}
 use Rattle.vectors.proofs.codes.row.Statement.{statement}

@@ -1,4 +1,4 @@
--- `vectors::packets::outer` meets its contract.
+-- `vectors::packets::outer` is safe.
 use mathlib.Core.Path.{_∙_, sym}
 use borrow.Author.Needs.{needs}
 use Rattle.vectors.proofs.packets.outer.Statement.{statement}

@@ -1,4 +1,4 @@
--- `vectors::stamps::every_first_byte` meets its contract.
+-- `vectors::stamps::every_first_byte` is safe.
 use Prim.Native.Nat.{_-_}
 use borrow.Author.Needs.{needs}
 use Rattle.vectors.proofs.stamps.every_first_byte.Statement.{statement}

@@ -1,4 +1,4 @@
--- `vectors::times::time` meets its contract.
+-- `vectors::times::time` is safe.
 use mathlib.Core.Path.{_∙_, sym}
 use Rattle.time.proofs.Judged.{time-judged}
 use borrow.Author.Needs.{needs}
