@@ -31,7 +31,7 @@ use Rattle.time.specs.declared.UnixTime.{UnixTime}
 use lib.ListN.{drop, length}
 use mathlib.Core.Bool.{Bool, false, true}
 use mathlib.Core.List.{List, []}
-use mathlib.Core.Path.{_≡_}
+use mathlib.Core.Path.{_≡_, refl}
 use native.Mathlib.Omega.{arith}
 
 abbrev pub Own : {A : Type 0} → Outcome A → Type 0

@@ -5,7 +5,7 @@ use Rattle.record.specs.declared.Record.{Record}
 use Rattle.rules.proofs.All.{and-left}
 use Rattle.rules.specs.Papers.{Outcome, Paper, after, done, judgedBy, no, refused, says}
 use Rattle.rules.specs.Tests.{allOf, unless}
-use Rattle.schedule.specs.Judge.{judging, setupOk, stateOk}
+use Rattle.schedule.specs.Judge.{buffersOk, judging, setupOk, stateOk}
 use Rattle.schedule.specs.Promise.{Writes}
 use Rattle.schedule.specs.State.{State, recordOf}
 use Rattle.schedule.specs.declared.Setup.{Setup}
