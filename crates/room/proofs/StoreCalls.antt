@@ -75,7 +75,7 @@ module _ (ns ks : List ℕ) (ps : List Pool) (shaped : shape ps ≡ ns) where
     unfolding place struck
     places d tooLarge x′ f h = rw (f refl) (refuses _ _ _)
     places d (allTaken k) x′ f h = strikes _ _ _ _ refl
-    places d (P.through k i) x′ f h =
+    places d (P.into k i) x′ f h =
         let n = vacant-named ps k i (h .0) in
         rw (f refl, editAt-grow (fill d) ks ps k i n)
         (answers _ _ _ _ (shape-editAt (fill d) ps k i ∙ shaped, slotted ns k i narrow few (rw shaped at n)))
