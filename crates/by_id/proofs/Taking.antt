@@ -8,7 +8,7 @@ use native.Mathlib.Omega.{arith}
 use Rattle.record.specs.declared.Record.{Record}
 use Rattle.rules.specs.Papers.{Outcome, after, done, no, says}
 use Rattle.rules.specs.Tests.{unless}
-use Rattle.store.proofs.Laid.{leaves-same}
+use Rattle.laid.proofs.Laid.{leaves-same}
 use Rattle.store.specs.Calls.{deleteIn}
 use Rattle.store.specs.Refusals.{deletedPaper}
 use Rattle.slots.specs.View.{Leaves, view}

@@ -3,7 +3,7 @@ use Prim.Native.Nat.{_+_, _<_, _≤_, ℕ}
 use Rattle.client.specs.Answers.{oneIfDone}
 use Rattle.client.specs.Sweep.{countAll, one, sweepIn, withoutOne, withoutAll}
 use Rattle.rules.specs.Papers.{after, no, says}
-use Rattle.store.proofs.Laid.{leaves-as, leaves-now, leaves-same, leaves-then}
+use Rattle.laid.proofs.Laid.{leaves-as, leaves-now, leaves-same, leaves-then}
 use Rattle.store.specs.Calls.{deleteIn}
 use Rattle.layout.specs.Judge.{Sound}
 use Rattle.slots.specs.Pools.{Pool}

@@ -5,7 +5,7 @@ use mathlib.Core.List.{List, _∷_}
 use mathlib.Core.Path.{_≡_, _∙_, ap, refl}
 use native.Mathlib.Omega.{arith}
 use Rattle.rules.specs.Papers.{after, says}
-use Rattle.store.proofs.Laid.{leaves-as, leaves-now, leaves-same, leaves-then}
+use Rattle.laid.proofs.Laid.{leaves-as, leaves-now, leaves-same, leaves-then}
 use Rattle.store.specs.Calls.{deleteIn}
 use Rattle.layout.specs.Judge.{Sound as StoreSound}
 use Rattle.slots.specs.Pools.{Pool}

@@ -12,7 +12,7 @@ use Rattle.record.specs.declared.ScheduleRefusal.{ScheduleRefusal}
 use Rattle.record.specs.declared.ScheduleRefusal.the-variants.{BadTime}
 use Rattle.rules.specs.Papers.{done, no}
 use Rattle.rules.specs.Tests.{unless}
-use Rattle.store.proofs.Laid.{leaves-same}
+use Rattle.laid.proofs.Laid.{leaves-same}
 use Rattle.rows.proofs.Rows.{length-unpack}
 use Rattle.table_edit.proofs.Stays.{insert-number}
 use Rattle.table_edit.specs.Edits.{afterInsert, insertSorted}

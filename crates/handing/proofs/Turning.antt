@@ -3,7 +3,7 @@ use Prim.Native.Nat.{_*_, _+_, _-_, _<_, _≤_, suc, ℕ}
 use Rattle.log.proofs.Sizes.{size-records}
 use Rattle.log.proofs.Whole.{ended, left, turn}
 use Rattle.log.specs.Log.{LogRecord, maxLogBytes, offsets, records, total}
-use Rattle.store.proofs.Laid.{leaves-as, leaves-now, leaves-same, leaves-then}
+use Rattle.laid.proofs.Laid.{leaves-as, leaves-now, leaves-same, leaves-then}
 use Rattle.slots.specs.Pools.{Pool, find}
 use Rattle.slots.specs.View.{Leaves, view}
 use Rattle.rows.proofs.Rows.{drop-row, length-unpack}

@@ -7,7 +7,7 @@ use Rattle.record.specs.declared.Record.{Record}
 use Rattle.rules.specs.Tests.{unless}
 use Rattle.rules.specs.Papers.{Outcome, Paper, after, done, judgedBy, no, refused, says}
 use Rattle.layout.proofs.Bounds.{bounds}
-use Rattle.store.proofs.Laid.{leaves-same, lens-laid, same-lens, same-store, store-laid}
+use Rattle.laid.proofs.Laid.{leaves-same, lens-laid, same-lens, same-store, store-laid}
 use Rattle.layout.specs.Layout.{allRows}
 use Rattle.slots.specs.View.{Leaves, lensWith, storeWith}
 use Rattle.rows.proofs.Rows.{length-unpack}

@@ -11,7 +11,7 @@ use Rattle.record.specs.declared.ScheduleRefusal.{ScheduleRefusal}
 use Rattle.record.specs.declared.ScheduleRefusal.the-variants.{BadTime, Store}
 use Rattle.rules.specs.Papers.{after, says}
 use Rattle.rules.specs.Tests.{unless}
-use Rattle.store.proofs.Laid.{lens-laid, store-laid}
+use Rattle.laid.proofs.Laid.{lens-laid, store-laid}
 use Rattle.store.specs.Calls.{freshPools}
 use Rattle.lookup.specs.Refusals.{paper as storePaper}
 use Rattle.slots.specs.View.{Leaves}

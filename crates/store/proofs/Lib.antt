@@ -3,7 +3,6 @@ pub mod Slots
 pub mod Wrote
 pub mod Edit
 pub mod Rows
-pub mod Laid
 pub mod Promises
 pub mod Chosen
 pub mod Start

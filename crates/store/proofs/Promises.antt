@@ -14,7 +14,7 @@ use Rattle.slots.specs.Inside.{fits, spotOf}
 use Rattle.slots.specs.Pools.{Pool, find}
 use Rattle.slots.specs.View.{Leaves, lensWith, put, storeWith, view}
 use Rattle.store.proofs.Edit.{leaves-wipe}
-use Rattle.store.proofs.Laid.{leaves-same, lens-laid, same-lens, same-store, store-laid}
+use Rattle.laid.proofs.Laid.{leaves-same, lens-laid, same-lens, same-store, store-laid}
 use Rattle.store.specs.Calls.{deleteIn}
 use Rattle.store.specs.Edits.{edit, wipe}
 use Rattle.store.specs.Promise.{Does, Writes}

@@ -11,7 +11,7 @@ use Rattle.slots.proofs.Find.{slot-free}
 use Rattle.slots.specs.Pools.{Slot, free}
 use Rattle.slots.specs.View.{Leaves, bytesAt, lenAt, part, put, slotIn, view}
 use Rattle.rules.proofs.Each.{each-cong, each-same}
-use Rattle.store.proofs.Laid.{lens-laid, store-laid}
+use Rattle.laid.proofs.Laid.{lens-laid, store-laid}
 use Rattle.store.proofs.Slots.{front}
 use Rattle.store.specs.Calls.{freshIn, freshPools}
 use Rattle.store.specs.Promise.{Writes}

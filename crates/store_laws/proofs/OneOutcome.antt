@@ -2,7 +2,7 @@
 use Prim.Native.Nat.{ℕ}
 use Rattle.rules.specs.Papers.{Outcome, Paper, says}
 use Rattle.layout.proofs.Bounds.{sized-fits}
-use Rattle.store.proofs.Laid.{lens-laid, store-laid}
+use Rattle.laid.proofs.Laid.{lens-laid, store-laid}
 use Rattle.slots.proofs.Lists.{part-length}
 use Rattle.store.proofs.Promises.{writes}
 use Rattle.store.specs.Calls.{freshPools}

@@ -3,7 +3,7 @@ use Prim.Native.Nat.{_+_, _-_, _≤_, ℕ}
 use Rattle.log.specs.Log.{recordBytes}
 use Rattle.rules.specs.Papers.{Paper, done, refused, says}
 use Rattle.lookup.proofs.Asks.{found-held-at}
-use Rattle.store.proofs.Laid.{leaves-as, leaves-same}
+use Rattle.laid.proofs.Laid.{leaves-as, leaves-same}
 use Rattle.slots.proofs.Lists.{part-length, taken-out}
 use Rattle.store.specs.Calls.{deleteIn}
 use Rattle.lookup.specs.Calls.{ifHeld, ifNamed, packetIn}

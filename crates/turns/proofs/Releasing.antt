@@ -3,7 +3,7 @@ use Prim.Native.Nat.{_≤_, min, ℕ}
 use Rattle.handing.specs.Handing.{HandsOut, afterAll, turns}
 use Rattle.log.specs.Log.{LogRecord, logBytes}
 use Rattle.measure.specs.Fitting.{fitting}
-use Rattle.store.proofs.Laid.{leaves-as}
+use Rattle.laid.proofs.Laid.{leaves-as}
 use Rattle.slots.specs.Pools.{Pool}
 use Rattle.slots.specs.View.{view}
 use Rattle.layout.specs.declared.Setup.{Setup}

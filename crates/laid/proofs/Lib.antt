@@ -1,0 +1,2 @@
+-- The lent lists from what they stand for.
+pub mod Laid
