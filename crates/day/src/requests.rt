@@ -76,7 +76,7 @@ fn call(
 ) -> Record {
     if k == START {
         let m = line::margin(text, 4);
-        return changed(schedule::fresh_start(
+        return changed(starting::fresh_start(
             shift::setup(),
             rec,
             store,

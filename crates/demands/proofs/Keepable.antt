@@ -11,9 +11,9 @@ use Rattle.wrapped.specs.Wrapped.{insertWrappedIn}
 use Rattle.record.specs.Record.{clockIn, markIn}
 use Rattle.record.specs.declared.Record.{Record}
 use Rattle.rules.specs.Papers.{Outcome, Paper, after, says}
-use Rattle.schedule.specs.Counting.{countIn}
+use Rattle.counting.specs.Counting.{countIn}
 use Rattle.schedule.specs.Judge.{judging}
-use Rattle.schedule.specs.Starting.{startIn}
+use Rattle.starting.specs.Starting.{startIn}
 use Rattle.schedule.specs.State.{State, recordOf}
 use Rattle.schedule.specs.declared.Setup.{Setup}
 use Rattle.scheduler.specs.Steps.{Answer, Request, add, count, delete, deleteById, deleteKeeping, deleteWindow, disable, enable, hasElementAt, insertStored, insertUnwrapped, insertWrapped, lenOfData, modify, read, reset, retrieve, setClock, tick}

@@ -8,7 +8,7 @@ use Rattle.rules.proofs.Order.{through-says, refusal-keeps}
 use Rattle.rules.specs.Papers.{Outcome, Paper, done, judgedBy, no, refused, says}
 use Rattle.rules.specs.Tests.{unless}
 use Rattle.schedule.specs.Judge.{buffersOk, judging, setupOk}
-use Rattle.schedule.specs.Starting.{freshState, startIn}
+use Rattle.starting.specs.Starting.{freshState, startIn}
 use Rattle.schedule.specs.State.{State, stateOf}
 use Rattle.schedule.specs.declared.Setup.{Setup}
 use Rattle.scheduler.proofs.Numbers.{Own, clock-numbered, judged-most, mark-numbered, own-add, own-by-id, own-count, own-delete, own-has, own-keeping, own-len, own-packet, own-read, own-reset, own-retrieve, own-stored, own-tick, own-unless, own-unwrapped, own-window, own-wrapped}

@@ -5,7 +5,7 @@ use Rattle.demands.specs.Demands.{AsTheModel, NeverDamaged, NoneDamaged,
 use Rattle.room.proofs.Demand.{room-never-changes-an-answer}
 use Rattle.record.specs.Record.{timesInRange}
 use Rattle.room.specs.Room.{RoomNeverChangesAnAnswer, strike, struck}
-use Rattle.schedule.specs.Starting.{freshState}
+use Rattle.starting.specs.Starting.{freshState}
 use Rattle.schedule.specs.State.{State, recordOf}
 use Rattle.schedule.specs.declared.Setup.{Setup}
 use Rattle.scheduler.proofs.Answering.{told}

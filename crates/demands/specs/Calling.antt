@@ -9,10 +9,10 @@ use Rattle.wrapped.specs.Wrapped.{insertWrappedIn}
 use Rattle.record.specs.Record.{clockIn, markIn}
 use Rattle.record.specs.declared.Record.{Record}
 use Rattle.rules.specs.Papers.{Outcome, after, says}
-use Rattle.schedule.specs.Counting.{countIn}
+use Rattle.counting.specs.Counting.{countIn}
 use Rattle.schedule.specs.Judge.{judging}
 use Rattle.schedule.specs.Promise.{Writes}
-use Rattle.schedule.specs.Starting.{Starts, startIn}
+use Rattle.starting.specs.Starting.{Starts, startIn}
 use Rattle.schedule.specs.State.{State}
 use Rattle.schedule.specs.declared.Setup.{Setup}
 use Rattle.scheduler.specs.Steps.{Answer, Request, add, bufferOf, count, delete, deleteById, deleteKeeping, deleteWindow, disable, enable, hasElementAt, insertStored, insertUnwrapped, insertWrapped, lenOfData, modify, read, reset, retrieve, setClock, tick}

@@ -4,7 +4,7 @@ use Prim.Native.Nat.{ℕ}
 use Rattle.demands.specs.Calling.{Begins, Call, Lent, Promised, Runs, lentTo, request}
 use Rattle.room.specs.Room.{EveryNamed, Roomier, Spills, strike}
 use Rattle.rules.specs.Papers.{after}
-use Rattle.schedule.specs.Starting.{freshState}
+use Rattle.starting.specs.Starting.{freshState}
 use Rattle.schedule.specs.State.{State, stateOf}
 use Rattle.schedule.specs.declared.Setup.{Setup}
 use Rattle.scheduler.specs.Fits.{AllOfBytes}

@@ -6,7 +6,7 @@ use Rattle.room.proofs.Grow.{Slotted}
 use Rattle.room.proofs.States.{Fit, grown}
 use Rattle.room.proofs.Steps.{Good, steps}
 use Rattle.room.specs.Room.{EveryNamed, Named, RoomNeverChangesAnAnswer, answersOf, strike, struck}
-use Rattle.schedule.specs.Starting.{freshState}
+use Rattle.starting.specs.Starting.{freshState}
 use Rattle.schedule.specs.State.{State, withPools}
 use Rattle.schedule.specs.declared.Setup.{Setup}
 use Rattle.scheduler.specs.Steps.{Answer, Request, Stepped, run, step}

@@ -13,7 +13,7 @@ use Rattle.room.specs.Room.{AllNamed, Named, addresses, struck}
 use Rattle.rules.specs.Papers.{Outcome, after, done, through, refused, says}
 use Rattle.schedule.specs.State.{State, recordOf, withPools}
 use Rattle.schedule.specs.declared.Setup.{Setup}
-use Rattle.schedule.specs.Counting.{countIn}
+use Rattle.counting.specs.Counting.{countIn}
 use Rattle.windows.specs.Windowing.{retrieveIn}
 use Rattle.windows.specs.declared.TimeWindow.{TimeWindow}
 use Rattle.record.specs.Record.{clockIn, markIn}

@@ -8,7 +8,7 @@ use mathlib.Core.List.{List, [], _∷_}
 use mathlib.Core.Path.{_≡_}
 use Rattle.rules.specs.Papers.{Paper}
 use Rattle.schedule.specs.Judge.{setupOk}
-use Rattle.schedule.specs.Starting.{freshState}
+use Rattle.starting.specs.Starting.{freshState}
 use Rattle.scheduler.specs.Steps.{Answer, Request, add, count, delete, deleteById, deleteKeeping, deleteWindow, disable, enable, hasElementAt, insertStored, insertUnwrapped, insertWrapped, lenOfData, modify, read, reset, retrieve, run, setClock, tick}
 use Rattle.schedule.specs.declared.Setup.{Setup}
 use Rattle.address.specs.Address.{poolOf, slotOf}

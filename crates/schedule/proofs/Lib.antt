@@ -2,5 +2,3 @@
 pub mod Facts
 pub mod Judging
 pub mod Promises
-pub mod Counting
-pub mod Starting

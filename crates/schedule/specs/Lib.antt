@@ -3,6 +3,4 @@ pub mod State
 pub mod Answers
 pub mod Judge
 pub mod Promise
-pub mod Counting
-pub mod Starting
 pub mod Inside

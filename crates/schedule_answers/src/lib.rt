@@ -25,7 +25,7 @@ ghost use Rattle.face_words.specs.Inside.{eight, wordsOf};
 ghost use Rattle.insertions.specs.Answers.{insertedPaper};
 ghost use Rattle.record.specs.Refusals.{donePaper, marginWords, paper, timeWords};
 ghost use Rattle.rules.specs.Papers.{no};
-ghost use Rattle.schedule.specs.Answers.{countedPaper};
+ghost use Rattle.counting.specs.Answers.{countedPaper};
 ghost use Rattle.schedule_answers.specs.Inside.{carrying, shortPaper};
 ghost use Rattle.tick.specs.Promise.{tickPaper};
 
@@ -96,12 +96,12 @@ pub fn done(a: Done) -> Words
     }
 }
 
-pub fn counted(a: schedule::Counted) -> Words
+pub fn counted(a: counting::Counted) -> Words
     ensures { λ r. ⌜ r ≡ wordsOf (countedPaper a) ⌝ }
 {
     match a {
-        schedule::Counted::Count(n) => one(0, wide(n)),
-        schedule::Counted::Refused(e) => refusal(e),
+        counting::Counted::Count(n) => one(0, wide(n)),
+        counting::Counted::Refused(e) => refusal(e),
     }
 }
 

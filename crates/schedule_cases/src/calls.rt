@@ -41,7 +41,7 @@ fn run(
         return inserting::run(b, k, text, store, lens, rows);
     }
     if k == line::START {
-        let c = schedule::fresh_start(
+        let c = starting::fresh_start(
             b.setup,
             b.rec,
             store,
@@ -53,7 +53,7 @@ fn run(
         return change(c);
     }
     if k == line::COUNT {
-        shown::counted(schedule::count(b.setup, b.rec, store, lens, rows));
+        shown::counted(counting::count(b.setup, b.rec, store, lens, rows));
         return b.rec;
     }
     set(b.rec, k, text)

@@ -26,9 +26,10 @@ use Rattle.record.specs.declared.Done.{Done}
 use Rattle.record.specs.declared.ScheduleRefusal.the-variants.{BadTime, BadTimestamp, LogTooSmall, NestedScheduledTc, ReleaseTimeInTimeMargin, ReversedWindow, ScheduleFull, Store, TcDataEmpty, TcUnreadable, WrongService, WrongSubservice}
 use Rattle.record.specs.declared.ScheduleRefusal.{ScheduleRefusal}
 use Rattle.rules.specs.Papers.{Paper, no}
-use Rattle.schedule.specs.Answers.{countedPaper, verdictPaper}
-use Rattle.schedule.specs.declared.Counted.the-variants as Co
-use Rattle.schedule.specs.declared.Counted.{Counted}
+use Rattle.counting.specs.Answers.{countedPaper}
+use Rattle.schedule.specs.Answers.{verdictPaper}
+use Rattle.counting.specs.declared.Counted.the-variants as Co
+use Rattle.counting.specs.declared.Counted.{Counted}
 use Rattle.schedule.specs.declared.Verdict.the-variants as Ve
 use Rattle.schedule.specs.declared.Verdict.{Verdict}
 use Rattle.scheduler.specs.Words.{CarriesWords, Words}

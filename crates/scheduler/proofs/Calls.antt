@@ -16,7 +16,7 @@ use Rattle.record.specs.Record.{clockIn, markIn, timesInRange, withClock, withM
 use Rattle.rules.proofs.All.{and-left, and-right}
 use Rattle.rules.specs.Papers.{Outcome, after, done, through, no, refused}
 use Rattle.rules.specs.Tests.{unless}
-use Rattle.schedule.specs.Starting.{startIn}
+use Rattle.starting.specs.Starting.{startIn}
 use Rattle.schedule.specs.State.{State, recordOf, withEntries, withPools}
 use Rattle.schedule.specs.declared.Setup.{Setup}
 use Rattle.scheduler.proofs.Stamps.{data-bytes, stamp-timely}

@@ -16,7 +16,7 @@ use Rattle.record.specs.declared.Record.{Record}
 use Rattle.rules.proofs.Order.{through-says}
 use Rattle.rules.specs.Papers.{Outcome, Paper, done, through, judgedBy, no, refused, says}
 use Rattle.rules.specs.Tests.{unless}
-use Rattle.schedule.specs.Counting.{countIn}
+use Rattle.counting.specs.Counting.{countIn}
 use Rattle.schedule.specs.State.{State, withPools}
 use Rattle.schedule.specs.declared.Setup.{Setup}
 use Rattle.stamp.specs.Stamp.{stampOf}

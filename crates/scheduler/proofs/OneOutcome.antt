@@ -16,11 +16,12 @@ use Rattle.record.specs.declared.Done.{Done}
 use Rattle.record.specs.declared.Record.{Record}
 use Rattle.rules.specs.Papers.{Outcome, Paper, after, says}
 use Rattle.schedule.proofs.Promises.{writes}
-use Rattle.schedule.specs.Answers.{countedPaper, verdictPaper}
+use Rattle.counting.specs.Answers.{countedPaper}
+use Rattle.schedule.specs.Answers.{verdictPaper}
 use Rattle.schedule.specs.Judge.{Sound, judging}
 use Rattle.schedule.specs.Promise.{Does, WritesOver}
 use Rattle.schedule.specs.State.{State}
-use Rattle.schedule.specs.declared.Counted.the-variants as Co
+use Rattle.counting.specs.declared.Counted.the-variants as Co
 use Rattle.schedule.specs.declared.Setup.{Setup}
 use Rattle.schedule.specs.declared.Verdict.the-variants as Ve
 use Rattle.scheduler.proofs.OneToOne.{OneToOne, one-cleared, one-counted, one-done, one-freed, one-inserted, one-retrieved, one-taken, one-verdict}

@@ -15,8 +15,9 @@ use Rattle.insertions.specs.declared.InsertAnswer.the-variants as I
 use Rattle.record.specs.Refusals.{donePaper, paper}
 use Rattle.record.specs.declared.Done.the-variants as D
 use Rattle.record.specs.declared.ScheduleRefusal.{ScheduleRefusal}
-use Rattle.schedule.specs.Answers.{countedPaper, verdictPaper}
-use Rattle.schedule.specs.declared.Counted.the-variants as Co
+use Rattle.counting.specs.Answers.{countedPaper}
+use Rattle.schedule.specs.Answers.{verdictPaper}
+use Rattle.counting.specs.declared.Counted.the-variants as Co
 use Rattle.schedule.specs.declared.Verdict.the-variants as Ve
 use Rattle.scheduler.proofs.Back.{back, cleared-back, clearedOf, counted-back, countedOf, done-back, doneOf, freed-back, freedOf, inserted-back, insertedOf, retrieved-back, retrievedOf, taken-back, takenOf, there-and-back, ticked-back, tickedOf, verdict-back, verdictOf}
 use Rattle.scheduler.specs.Words.{CarriesWords, Words}

@@ -9,7 +9,7 @@ use Rattle.rules.specs.Tests.{unless}
 use Rattle.schedule.proofs.Promises.{judging-fine, writes}
 use Rattle.schedule.specs.Judge.{Sound, buffersOk, judging, setupOk, stateOk}
 use Rattle.schedule.specs.Promise.{Does, Writes}
-use Rattle.schedule.specs.Starting.{Starts, freshState, startIn}
+use Rattle.starting.specs.Starting.{Starts, freshState, startIn}
 use Rattle.schedule.specs.State.{State, recordOf, stateOf}
 use Rattle.schedule.specs.declared.Setup.{Setup}
 use Rattle.scheduler.proofs.Calls.{StaysTimed, add-gives, by-id-gives, clock-timed, delete-gives, gives-after, keeping-gives, mark-timed, modify-gives, record-gives, reset-gives, start-gives, stored-gives, unwrapped-gives, window-gives, wrapped-gives}

@@ -12,7 +12,7 @@ use Rattle.wrapped.specs.Wrapped.{insertWrappedIn}
 use Rattle.record.specs.Record.{clockIn, markIn}
 use Rattle.record.specs.declared.Record.{Record}
 use Rattle.rules.specs.Papers.{Outcome, Paper, after, through, says}
-use Rattle.schedule.specs.Counting.{countIn}
+use Rattle.counting.specs.Counting.{countIn}
 use Rattle.schedule.specs.State.{State, recordOf, withPools}
 use Rattle.schedule.specs.declared.Setup.{Setup}
 use Rattle.store.specs.Calls.{addIn, deleteIn}

@@ -2,11 +2,11 @@
 use crate::refusals;
 use by_id::FreeAnswer;
 use by_id::TakeAnswer;
+use counting::Counted;
 use deletions::ClearAnswer;
 use deletions::Last;
 use insertions::InsertAnswer;
 use record::Done;
-use schedule::Counted;
 use text::out;
 use tick::TickAnswer;
 use windows::Retrieved;

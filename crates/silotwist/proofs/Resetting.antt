@@ -6,7 +6,7 @@ use Rattle.rules.specs.Papers.{Outcome, Paper, after, judgedBy, no, refused, sa
 use Rattle.rules.specs.Tests.{unless}
 use Rattle.schedule.specs.Judge.{judging, setupOk}
 use Rattle.schedule.specs.Promise.{Writes}
-use Rattle.schedule.specs.Starting.{Starts, startIn}
+use Rattle.starting.specs.Starting.{Starts, startIn}
 use Rattle.schedule.specs.State.{State, recordOf}
 use Rattle.schedule.specs.declared.Setup.{Setup}
 use Rattle.lookup.specs.Refusals.{bit}

@@ -5,8 +5,8 @@ ghost use lib.ListN.{length};
 ghost use Rattle.deletions.specs.Deleting.{resetIn};
 ghost use Rattle.windows.specs.Windowing.{retrieveIn};
 ghost use Rattle.face_reading.specs.Reading.{windowFrom, word};
-ghost use Rattle.schedule.specs.Counting.{countIn};
-ghost use Rattle.schedule.specs.Starting.{startIn};
+ghost use Rattle.counting.specs.Counting.{countIn};
+ghost use Rattle.starting.specs.Starting.{startIn};
 ghost use Rattle.silotwist.specs.Face.{Answers};
 ghost use Rattle.silotwist.specs.ScheduleFace.{ScheduleFaces, allWritten, judgedCall, resetWritten, scheduleCall};
 
@@ -32,7 +32,7 @@ pub extern "C" fn silotwist_count(
         return schedule_answers::short(answer, su);
     }
     let r = face_reading::record(record);
-    let a = schedule::count(su, r, store, lens, rows);
+    let a = counting::count(su, r, store, lens, rows);
     let w = schedule_answers::counted(a);
     telling::put(answer, w)
 }
@@ -138,7 +138,7 @@ pub extern "C" fn silotwist_fresh(
         secs: margin_secs,
         nanos: margin_nanos,
     };
-    let c = schedule::fresh_start(su, r, store, lens, rows, t, m);
+    let c = starting::fresh_start(su, r, store, lens, rows, t, m);
     let a = c.answer;
     let w = schedule_answers::done(a);
     telling::with_all(record, c.next, answer, w)

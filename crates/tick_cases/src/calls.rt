@@ -75,7 +75,7 @@ fn change(
     rows: &mut [u64],
 ) -> Record {
     if k == b's' {
-        let c = schedule::fresh_start(
+        let c = starting::fresh_start(
             setup,
             rec,
             store,

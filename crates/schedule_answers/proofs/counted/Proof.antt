@@ -1,6 +1,6 @@
 -- `schedule_answers::counted` meets its contract.
 use Rattle.face_words.proofs.Told.{one-is, told}
-use Rattle.schedule.specs.Answers.{countedPaper}
+use Rattle.counting.specs.Answers.{countedPaper}
 use borrow.Author.Needs.{needs}
 use Rattle.schedule_answers.proofs.counted.Statement.{statement}
 use Rattle.schedule_answers.proofs.counted.Tie as tie

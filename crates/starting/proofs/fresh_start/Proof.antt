@@ -1,14 +1,14 @@
--- `schedule::fresh_start` meets its contract.
+-- `starting::fresh_start` meets its contract.
 use lib.ListN.{length}
 use mathlib.Core.Bool.{true}
 use mathlib.Core.Path.{_≡_}
 use native.Mathlib.Omega.{arith}
 use borrow.Author.Needs.{needs}
 use Rattle.schedule.specs.Judge.{buffersOk, setupOk}
 use Rattle.schedule.proofs.Facts.{long-enough, store-sized}
-use Rattle.schedule.proofs.Starting.{start-done, start-passed, start-refused}
-use Rattle.schedule.proofs.fresh_start.Statement.{statement}
-use Rattle.schedule.proofs.fresh_start.Tie as tie
+use Rattle.starting.proofs.Starting.{start-done, start-passed, start-refused}
+use Rattle.starting.proofs.fresh_start.Statement.{statement}
+use Rattle.starting.proofs.fresh_start.Tie as tie
 
 fine : (c : tie.After-enum-told)
     → (setupOk (c .before .before .before .before .before .before .args .setup) ≡ true)

@@ -1,13 +1,13 @@
--- `schedule::start::judge_start` meets its contract: each test that was passed is one more line of `startIn`.
+-- `starting::start::judge_start` meets its contract: each test that was passed is one more line of `startIn`.
 use mathlib.Core.Bool.{true}
 use mathlib.Core.Path.{_≡_, _∙_, sym}
 use borrow.Author.Needs.{needs}
 use borrow.Author.Tests.{not-false, not-true}
 use Rattle.time.specs.Time.{inRange}
 use Rattle.schedule.specs.Judge.{buffersOk, setupOk}
-use Rattle.schedule.proofs.Starting.{start-bad-clock, start-bad-margin, start-fine, start-no-buffers, start-no-setup}
-use Rattle.schedule.proofs.start.judge_start.Statement.{statement}
-use Rattle.schedule.proofs.start.judge_start.Tie as tie
+use Rattle.starting.proofs.Starting.{start-bad-clock, start-bad-margin, start-fine, start-no-buffers, start-no-setup}
+use Rattle.starting.proofs.start.judge_start.Statement.{statement}
+use Rattle.starting.proofs.start.judge_start.Tie as tie
 
 setup-fine : (c : tie.Else1) → setupOk (c .before .before .args .setup) ≡ true
 setup-fine c = let p = c .before .setup-ok in sym (p .ensures) ∙ not-false (p .result) (c .if1 .left)

@@ -5,13 +5,13 @@ use mathlib.Core.Path.{_≡_, ap, sym}
 use Rattle.record.specs.declared.Record.{Record}
 use Rattle.rules.specs.Papers.{no, says}
 use Rattle.rows.proofs.Rows.{length-unpack}
-use Rattle.schedule.specs.Answers.{countedPaper}
+use Rattle.counting.specs.Answers.{countedPaper}
 use Rattle.schedule.specs.Judge.{Sound, judging}
 use Rattle.schedule.specs.State.{stateOf}
-use Rattle.schedule.specs.Counting.{countIn}
-use Rattle.schedule.specs.declared.Counted.the-variants.{Count}
+use Rattle.counting.specs.Counting.{countIn}
+use Rattle.counting.specs.declared.Counted.the-variants.{Count}
 use Rattle.schedule.specs.declared.Setup.{Setup}
 use Rattle.schedule.proofs.Promises.{judging-fine}
 
 pub counts : (su : Setup) (r : Record) (st le ro : List ℕ) → Sound su r st le ro
     → countedPaper (Count (r .count)) ≡ says (judging su r st le ro countIn)

@@ -1,12 +1,12 @@
--- `schedule::count` meets its contract.
+-- `counting::count` meets its contract.
 use borrow.Author.Needs.{needs}
 use Rattle.rules.specs.Papers.{says}
-use Rattle.schedule.specs.Answers.{countedPaper}
-use Rattle.schedule.specs.Counting.{countIn}
-use Rattle.schedule.proofs.Counting.{counts}
+use Rattle.counting.specs.Answers.{countedPaper}
+use Rattle.counting.specs.Counting.{countIn}
+use Rattle.counting.proofs.Counting.{counts}
 use Rattle.schedule.proofs.Judging.{judging-refused, sound-by}
-use Rattle.schedule.proofs.count.Statement.{statement}
-use Rattle.schedule.proofs.count.Tie as tie
+use Rattle.counting.proofs.count.Statement.{statement}
+use Rattle.counting.proofs.count.Tie as tie
 
 returns : tie.Need-returns
 unfolding countedPaper says

@@ -1,14 +1,13 @@
 // The fresh start's judging: 1, 2 and 4 only, and the record that it begins with.
-use crate::Setup;
-use crate::Verdict;
-use crate::tests;
 use record::Record;
 use record::ScheduleRefusal;
+use schedule::Setup;
+use schedule::Verdict;
 use slots::StoreRefusal;
 use time::Margin;
 use time::UnixTime;
 ghost use mathlib.Core.Path.{_≡_};
-ghost use Rattle.schedule.specs.Inside.{StartJudges, startRecord};
+ghost use Rattle.starting.specs.Inside.{StartJudges, startRecord};
 
 pub fn judge_start(
     setup: Setup,
@@ -20,11 +19,11 @@ pub fn judge_start(
 ) -> Verdict
     ensures { λ v. ⌜ StartJudges setup room lens rows clock margin v ⌝ }
 {
-    let fine = tests::setup_ok(setup);
+    let fine = schedule::setup_ok(setup);
     if !fine {
         return Verdict::Refused(ScheduleRefusal::Store(StoreRefusal::BadSetup));
     }
-    let fits = tests::buffers_ok(setup, room, lens, rows);
+    let fits = schedule::buffers_ok(setup, room, lens, rows);
     if !fits {
         return Verdict::Refused(ScheduleRefusal::Store(StoreRefusal::BadBuffers));
     }

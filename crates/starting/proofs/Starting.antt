@@ -21,15 +21,15 @@ use Rattle.rows.specs.Entries.{relaid}
 use Rattle.time.specs.Time.{inRange, marginInRange}
 use Rattle.time.specs.declared.Margin.{Margin}
 use Rattle.time.specs.declared.UnixTime.{UnixTime}
-use Rattle.schedule.specs.Inside.{StartJudges, startRecord, startedAs}
+use Rattle.starting.specs.Inside.{StartJudges, startRecord, startedAs}
 use Rattle.schedule.specs.Judge.{buffersOk, setupOk}
-use Rattle.schedule.specs.Starting.{Starts, startIn}
+use Rattle.starting.specs.Starting.{Starts, startIn}
 use Rattle.schedule.specs.declared.Setup.{Setup}
 use Rattle.schedule.specs.declared.Verdict.{Verdict}
 use Rattle.schedule.specs.declared.Verdict.the-variants as Ve
 use Rattle.schedule.proofs.Facts.{long-enough}
 use Rattle.table_edit.proofs.Stays.{without-all}
 use Rattle.schedule.proofs.Promises.{refused-writes}
 
 -- what the judging answers, by the tests that it made
 module _ (su : Setup) (room lens rows : ℕ) (c : UnixTime) (m : Margin) where

@@ -1,0 +1,2 @@
+-- The facts by which the count is proved.
+pub mod Counting

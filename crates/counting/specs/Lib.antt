@@ -1,0 +1,3 @@
+-- The count: its rule, and its answers' numbers.
+pub mod Counting
+pub mod Answers

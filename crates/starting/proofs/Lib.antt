@@ -1,0 +1,2 @@
+-- The facts by which the fresh start is proved.
+pub mod Starting

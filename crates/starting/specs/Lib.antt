@@ -1,0 +1,3 @@
+-- The fresh start: its rule and promise, and what its judging answers.
+pub mod Starting
+pub mod Inside
