@@ -139,7 +139,7 @@ fn tick(s: Shift, text: &[u8], store: &mut [u8], lens: &mut [u16], rows: &mut [u
     let mut log = [0u8; 1024];
     let limit = line::index(text, 1);
     let rec = s.rec;
-    let t = tick::tick(
+    let t = tick_public::tick(
         shift::setup(),
         rec,
         store,

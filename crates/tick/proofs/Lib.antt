@@ -1,4 +1,3 @@
 -- The proofs of the tick.
 pub mod Lacking
 pub mod Ticking
-pub mod Promised

@@ -42,7 +42,7 @@ fn tick(
     let l = line::least(b.lens, lens.len());
     let r = line::least(b.rows, rows.len());
     let n = line::part(text, 3, log.len());
-    let t = tick::tick(
+    let t = tick_public::tick(
         b.setup,
         b.rec,
         &mut store[0..s],

@@ -1,11 +1,11 @@
--- `tick::tick` meets its contract.
+-- `tick_public::tick` meets its contract.
 use Rattle.tick.specs.Tick.{tickIn}
 use Rattle.tick.specs.Promise.{tickPaper}
-use Rattle.tick.proofs.Promised.{ticks, ticks-refused}
+use Rattle.tick_public.proofs.Promised.{ticks, ticks-refused}
 use Rattle.schedule.proofs.Judging.{sound-by}
 use borrow.Author.Needs.{needs}
-use Rattle.tick.proofs.tick.Statement.{statement}
-use Rattle.tick.proofs.tick.Tie as tie
+use Rattle.tick_public.proofs.tick.Statement.{statement}
+use Rattle.tick_public.proofs.tick.Tie as tie
 
 tick-requires : tie.Need-tick-requires
 tick-requires c κs =

@@ -1,0 +1,2 @@
+-- The public tick: judged, and then carried out.
+pub mod Promised
