@@ -33,7 +33,7 @@ pub extern "C" fn silotwist_tick(
     }
     let r = face_reading::record(record);
     let most = limit as usize;
-    let c = tick::tick(su, r, store, lens, rows, log, most, delete_packets);
+    let c = tick_public::tick(su, r, store, lens, rows, log, most, delete_packets);
     let a = c.answer;
     let w = schedule_answers::ticked(a);
     telling::with_count(record, c.next.count, answer, w)
