@@ -18,7 +18,8 @@ ghost use mathlib.Core.Path.{_≡_};
 ghost use mathlib.Core.List.{[], _++_};
 ghost use Prim.Native.Nat.{_≤_};
 ghost use lib.ListN.{drop, length};
-ghost use Rattle.deletions.specs.Answers.{clearedPaper, lastPaper};
+ghost use Rattle.deletions.specs.Answers.{clearedPaper};
+ghost use Rattle.sweep.specs.Answers.{lastPaper};
 ghost use Rattle.by_id.specs.Answers.{freedPaper, takenPaper};
 ghost use Rattle.windows.specs.Answers.{retrievedPaper};
 ghost use Rattle.face_words.specs.Inside.{eight, wordsOf};
@@ -144,12 +145,12 @@ fn behind(a: u64, b: u64, w: Words) -> Words
     }
 }
 
-fn last(a: deletions::Last) -> Words
+fn last(a: sweep::Last) -> Words
     ensures { λ r. ⌜ r ≡ wordsOf (lastPaper a) ⌝ }
 {
     match a {
-        deletions::Last::None => none(0),
-        deletions::Last::Missing(e) => store_refusal(e),
+        sweep::Last::None => none(0),
+        sweep::Last::Missing(e) => store_refusal(e),
     }
 }
 

@@ -1,7 +1,8 @@
 -- What each call makes of a state that fits: a refusal, or a state that fits.
 use Rattle.rules.proofs.Cases.{either}
 use Prim.Native.Nat.{_<_, _≤_, suc, zero-le, ℕ}
-use Rattle.deletions.specs.Deleting.{Swept, clearIn, deleteWindowIn, resetIn, sweep, swept, unswept}
+use Rattle.deletions.specs.Deleting.{clearIn, deleteWindowIn, resetIn}
+use Rattle.sweep.specs.Sweep.{Swept, sweep, swept, unswept}
 use Rattle.by_id.specs.ById.{deleteByIdIn, deleteKeepingIn, freed, takeIn}
 use Rattle.record.specs.declared.Record.{Record}
 use Rattle.windows.specs.Windowing.{windowOf, windowed}

@@ -1,12 +1,12 @@
--- `deletions::sweep::sweep` meets its contract.
+-- `sweep::sweep` meets its contract.
 use Prim.Native.Nat.{_-_}
 use lib.ListN.{length}
 use mathlib.Core.Path.{_≡_, refl}
 use native.Mathlib.Omega.{arith}
 use borrow.Author.Needs.{needs}
-use Rattle.deletions.proofs.Sweeping.{Going, going-first, going-last, going-next}
-use Rattle.deletions.proofs.sweep.sweep.Statement.{statement}
-use Rattle.deletions.proofs.sweep.sweep.Tie as tie
+use Rattle.sweep.proofs.Sweeping.{Going, going-first, going-last, going-next}
+use Rattle.sweep.proofs.sweep.Statement.{statement}
+use Rattle.sweep.proofs.sweep.Tie as tie
 
 abbrev Inv-loop : tie.InvT-loop
 Inv-loop setup store₀ lens₀ rows count end t₀ i₀ store lens t i =

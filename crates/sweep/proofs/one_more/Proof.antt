@@ -1,7 +1,7 @@
--- `deletions::sweep::one_more` meets its contract.
+-- `sweep::one_more` meets its contract.
 use borrow.Author.Needs.{needs}
-use Rattle.deletions.proofs.sweep.one_more.Statement.{statement}
-use Rattle.deletions.proofs.sweep.one_more.Tie as tie
+use Rattle.sweep.proofs.one_more.Statement.{statement}
+use Rattle.sweep.proofs.one_more.Tie as tie
 
 returns : tie.Need-returns
 returns c = rw (c .before .enum-told .given .1)

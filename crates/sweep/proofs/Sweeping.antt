@@ -19,11 +19,11 @@ use Rattle.store_laws.proofs.Numbers.{by-deleted}
 use Rattle.store_laws.proofs.StaysSound.{delete-stays}
 use Rattle.rows.proofs.Rows.{drop-row}
 use Rattle.rows.specs.Entries.{row, unpack}
-use Rattle.deletions.specs.Answers.{lastPaper}
-use Rattle.deletions.specs.Deleting.{Swept, sweep, swept, unswept}
-use Rattle.deletions.specs.Inside.{Sweeps, counted, tallied}
-use Rattle.deletions.specs.declared.Last.the-variants.{None}
-use Rattle.deletions.specs.declared.Tally.{Tally}
+use Rattle.sweep.specs.Answers.{lastPaper}
+use Rattle.sweep.specs.Sweep.{Swept, sweep, swept, unswept}
+use Rattle.sweep.specs.Inside.{Sweeps, counted, tallied}
+use Rattle.sweep.specs.declared.Last.the-variants.{None}
+use Rattle.sweep.specs.declared.Tally.{Tally}
 
 abbrev pub untold : Tally
 untold = record { deleted = 0; missing = 0; last = None }

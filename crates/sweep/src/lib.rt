@@ -1,7 +1,6 @@
 // The packets of a range of rows deleted from the store, in schedule order: how many there were, and why the others were missing.
-use crate::Last;
-use crate::Tally;
 use selection::Part;
+use slots::StoreRefusal;
 use store::Deleted;
 ghost use mathlib.Core.Path.{_≡_};
 ghost use Prim.Native.Nat.{_+_, _<_, _≤_};
@@ -9,7 +8,20 @@ ghost use lib.ListN.{drop, take};
 ghost use Rattle.layout.specs.Judge.{Sound as StoreSound};
 ghost use Rattle.rows.specs.Entries.{unpack};
 ghost use Rattle.rows.specs.Order.{Sound as TableSound, maxEntries};
-ghost use Rattle.deletions.specs.Inside.{Sweeps, counted};
+ghost use Rattle.sweep.specs.Inside.{Sweeps, counted};
+
+// The last refusal that the store gave for a packet that was missing.
+pub enum Last {
+    None,
+    Missing(StoreRefusal),
+}
+
+// What became of the packets of deleted entries.
+pub struct Tally {
+    pub deleted: usize,
+    pub missing: usize,
+    pub last: Last,
+}
 
 pub fn sweep(
     setup: layout::Setup,
