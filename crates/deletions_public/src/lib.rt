@@ -1,8 +1,5 @@
-// Windows and deletions: retrieval and deletion by window, `reset`, and the deletions by request ID.
-use by_id::FreeAnswer;
-use by_id::Freed;
-use by_id::TakeAnswer;
-use by_id::Taken;
+// The public calls of windows and of the deletions of several entries (document 01, module 5): retrieval and deletion by window, and `reset`.
+// Each judges, refusals 1 to 3 in one pass, and then does what its judged form does.
 use deletions::ClearAnswer;
 use deletions::Cleared;
 use record::Record;
@@ -15,10 +12,8 @@ ghost use Rattle.rules.specs.Papers.{says};
 ghost use Rattle.schedule.specs.Judge.{judging};
 ghost use Rattle.schedule.specs.Promise.{Writes};
 ghost use Rattle.deletions.specs.Answers.{clearedPaper};
-ghost use Rattle.by_id.specs.Answers.{freedPaper, takenPaper};
 ghost use Rattle.windows.specs.Answers.{retrievedPaper};
 ghost use Rattle.deletions.specs.Deleting.{deleteWindowIn, resetIn};
-ghost use Rattle.by_id.specs.ById.{deleteByIdIn, deleteKeepingIn};
 ghost use Rattle.windows.specs.Windowing.{retrieveIn};
 
 // The rows of a window: the first and how many; row 0 where there are none.
@@ -89,65 +84,5 @@ pub fn reset(
             answer: ClearAnswer::Refused(e),
         },
         Verdict::Fine => deletions::deleting::reset(setup, rec, store, lens, rows),
-    }
-}
-
-// The entry of a request ID goes, and its packet stays.
-pub fn delete_by_request_id(
-    setup: Setup,
-    rec: Record,
-    store: &[u8],
-    lens: &[u16],
-    rows: &mut [u64],
-    request_id: u64,
-) -> Taken
-    ensures { λ c. ⌜ Writes setup rec (now (store .entry)) (now (lens .entry)) (now (rows .entry))
-        (judging setup rec (now (store .entry)) (now (lens .entry)) (now (rows .entry)) (deleteKeepingIn «request_id»))
-        (takenPaper (c .answer)) (c .next) (now (store .entry)) (now (lens .entry)) (now (rows .exit)) ⌝ }
-{
-    let j = schedule::judge(setup, rec, store, lens, rows);
-    match j {
-        Verdict::Refused(e) => Taken {
-            next: rec,
-            answer: TakeAnswer::Refused(e),
-        },
-        Verdict::Fine => by_id::judged::delete_by_request_id(
-            setup,
-            rec,
-            store,
-            lens,
-            rows,
-            request_id,
-        ),
-    }
-}
-
-// The entry of a request ID goes, and its packet with it.
-pub fn delete_by_request_id_and_from_pool(
-    setup: Setup,
-    rec: Record,
-    store: &mut [u8],
-    lens: &mut [u16],
-    rows: &mut [u64],
-    request_id: u64,
-) -> Freed
-    ensures { λ c. ⌜ Writes setup rec (now (store .entry)) (now (lens .entry)) (now (rows .entry))
-        (judging setup rec (now (store .entry)) (now (lens .entry)) (now (rows .entry)) (deleteByIdIn «request_id»))
-        (freedPaper (c .answer)) (c .next) (now (store .exit)) (now (lens .exit)) (now (rows .exit)) ⌝ }
-{
-    let j = schedule::judge(setup, rec, store, lens, rows);
-    match j {
-        Verdict::Refused(e) => Freed {
-            next: rec,
-            answer: FreeAnswer::Refused(e),
-        },
-        Verdict::Fine => by_id::judged::delete_by_request_id_and_from_pool(
-            setup,
-            rec,
-            store,
-            lens,
-            rows,
-            request_id,
-        ),
     }
 }

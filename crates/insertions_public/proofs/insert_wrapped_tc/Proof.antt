@@ -1,22 +1,23 @@
--- `schedule_public::deleting::delete_by_request_id_and_from_pool` meets its contract.
+-- `insertions_public::insert_wrapped_tc` meets its contract.
 use borrow.Author.Needs.{needs}
-use Rattle.by_id.specs.Answers.{freedPaper}
+use Rattle.insertions.specs.Answers.{insertedPaper}
 use Rattle.schedule.proofs.Judging.{sound-by}
 use Rattle.schedule.proofs.Promises.{writes, writes-refused}
-use Rattle.schedule_public.proofs.deleting.delete_by_request_id_and_from_pool.Statement.{statement}
-use Rattle.schedule_public.proofs.deleting.delete_by_request_id_and_from_pool.Tie as tie
+use Rattle.insertions_public.proofs.insert_wrapped_tc.Statement.{statement}
+use Rattle.insertions_public.proofs.insert_wrapped_tc.Tie as tie
 
-delete-by-request-id-and-from-pool-requires : tie.Need-delete-by-request-id-and-from-pool-requires
-delete-by-request-id-and-from-pool-requires c κs =
+insert-wrapped-tc-requires : tie.Need-insert-wrapped-tc-requires
+insert-wrapped-tc-requires c κs =
     let t = c .before .before .before in
     let j = t .before .before in
     sound-by _ _ _ _ _ _ (j .judge .ensures) (t .enum-told .given .1)
 
 returns : tie.Need-returns
-unfolding freedPaper
+unfolding insertedPaper
 returns c =
-    let j = c .before .before .before in
-    writes-refused _ _ _ _ _ _ _ _ (j .judge .ensures) (c .before .j .given .1)
+    let k = c .before .before in
+    let j = k .before .before in
+    rw (c .refuse .ensures .0, c .refuse .ensures .1) (writes-refused _ _ _ _ _ _ _ _ (j .judge .ensures) (k .j .given .1))
 
 returns-2 : tie.Need-returns-2
 returns-2 c =
@@ -24,16 +25,17 @@ returns-2 c =
     let t = x .before .before .before .before in
     let j = t .before .before in
     writes _ _ _ _ _ _ _ _ _ _ _ (sound-by _ _ _ _ _ _ (j .judge .ensures) (t .enum-told .given .1))
-    (x .delete-by-request-id-and-from-pool .ensures)
+    (x .insert-wrapped-tc .ensures)
 
-pub delete-by-request-id-and-from-pool-spec : {M : Type 1} → statement M
-delete-by-request-id-and-from-pool-spec =
+pub insert-wrapped-tc-spec : {M : Type 1} → statement M
+insert-wrapped-tc-spec =
     tie.close
     (tie.spec
     (λ c κs. search needs)
     (λ c. search needs)
+    (λ c κs. search needs)
     (λ c. search needs)
-    delete-by-request-id-and-from-pool-requires
+    insert-wrapped-tc-requires
     (λ c. search needs)
     (λ c. search needs)
     (λ c. search needs)

@@ -1,4 +1,4 @@
--- `schedule_public::deleting::retrieve_by_time_filter` meets its contract.
+-- `deletions_public::retrieve_by_time_filter` meets its contract.
 use mathlib.Core.Path.{_∙_, ap, refl, sym}
 use borrow.Author.Needs.{needs}
 use Rattle.rules.specs.Papers.{says}
@@ -7,8 +7,8 @@ use Rattle.schedule.specs.State.{stateOf}
 use Rattle.schedule.proofs.Facts.{facts, table-sound}
 use Rattle.schedule.proofs.Judging.{judging-refused, sound-by}
 use Rattle.schedule.proofs.Promises.{judging-fine}
-use Rattle.schedule_public.proofs.deleting.retrieve_by_time_filter.Statement.{statement}
-use Rattle.schedule_public.proofs.deleting.retrieve_by_time_filter.Tie as tie
+use Rattle.deletions_public.proofs.retrieve_by_time_filter.Statement.{statement}
+use Rattle.deletions_public.proofs.retrieve_by_time_filter.Tie as tie
 
 retrieve-by-time-filter-requires : tie.Need-retrieve-by-time-filter-requires
 retrieve-by-time-filter-requires c κs =

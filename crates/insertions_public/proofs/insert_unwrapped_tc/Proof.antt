@@ -1,10 +1,10 @@
--- `schedule_public::inserting::insert_unwrapped_tc` meets its contract.
+-- `insertions_public::insert_unwrapped_tc` meets its contract.
 use borrow.Author.Needs.{needs}
 use Rattle.insertions.specs.Answers.{insertedPaper}
 use Rattle.schedule.proofs.Judging.{sound-by}
 use Rattle.schedule.proofs.Promises.{writes, writes-refused}
-use Rattle.schedule_public.proofs.inserting.insert_unwrapped_tc.Statement.{statement}
-use Rattle.schedule_public.proofs.inserting.insert_unwrapped_tc.Tie as tie
+use Rattle.insertions_public.proofs.insert_unwrapped_tc.Statement.{statement}
+use Rattle.insertions_public.proofs.insert_unwrapped_tc.Tie as tie
 
 insert-unwrapped-tc-requires : tie.Need-insert-unwrapped-tc-requires
 insert-unwrapped-tc-requires c κs =

@@ -1,23 +1,22 @@
--- `schedule_public::inserting::insert_wrapped_tc` meets its contract.
+-- `by_id_public::delete_by_request_id_and_from_pool` meets its contract.
 use borrow.Author.Needs.{needs}
-use Rattle.insertions.specs.Answers.{insertedPaper}
+use Rattle.by_id.specs.Answers.{freedPaper}
 use Rattle.schedule.proofs.Judging.{sound-by}
 use Rattle.schedule.proofs.Promises.{writes, writes-refused}
-use Rattle.schedule_public.proofs.inserting.insert_wrapped_tc.Statement.{statement}
-use Rattle.schedule_public.proofs.inserting.insert_wrapped_tc.Tie as tie
+use Rattle.by_id_public.proofs.delete_by_request_id_and_from_pool.Statement.{statement}
+use Rattle.by_id_public.proofs.delete_by_request_id_and_from_pool.Tie as tie
 
-insert-wrapped-tc-requires : tie.Need-insert-wrapped-tc-requires
-insert-wrapped-tc-requires c κs =
+delete-by-request-id-and-from-pool-requires : tie.Need-delete-by-request-id-and-from-pool-requires
+delete-by-request-id-and-from-pool-requires c κs =
     let t = c .before .before .before in
     let j = t .before .before in
     sound-by _ _ _ _ _ _ (j .judge .ensures) (t .enum-told .given .1)
 
 returns : tie.Need-returns
-unfolding insertedPaper
+unfolding freedPaper
 returns c =
-    let k = c .before .before in
-    let j = k .before .before in
-    rw (c .refuse .ensures .0, c .refuse .ensures .1) (writes-refused _ _ _ _ _ _ _ _ (j .judge .ensures) (k .j .given .1))
+    let j = c .before .before .before in
+    writes-refused _ _ _ _ _ _ _ _ (j .judge .ensures) (c .before .j .given .1)
 
 returns-2 : tie.Need-returns-2
 returns-2 c =
@@ -25,17 +24,16 @@ returns-2 c =
     let t = x .before .before .before .before in
     let j = t .before .before in
     writes _ _ _ _ _ _ _ _ _ _ _ (sound-by _ _ _ _ _ _ (j .judge .ensures) (t .enum-told .given .1))
-    (x .insert-wrapped-tc .ensures)
+    (x .delete-by-request-id-and-from-pool .ensures)
 
-pub insert-wrapped-tc-spec : {M : Type 1} → statement M
-insert-wrapped-tc-spec =
+pub delete-by-request-id-and-from-pool-spec : {M : Type 1} → statement M
+delete-by-request-id-and-from-pool-spec =
     tie.close
     (tie.spec
     (λ c κs. search needs)
     (λ c. search needs)
-    (λ c κs. search needs)
     (λ c. search needs)
-    insert-wrapped-tc-requires
+    delete-by-request-id-and-from-pool-requires
     (λ c. search needs)
     (λ c. search needs)
     (λ c. search needs)

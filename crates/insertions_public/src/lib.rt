@@ -1,4 +1,5 @@
-// The three insertions: of a packet that is stored already, by a time and a packet, and by a wrapped packet.
+// The public calls of the three insertions (document 01, module 5): of a packet that is stored already, by a time and a packet, and by a wrapped
+// packet. Each judges, refusals 1 to 3 in one pass, and then does what its judged form does.
 use insertions::Inserted;
 use record::Changed;
 use record::Done;

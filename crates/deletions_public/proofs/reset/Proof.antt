@@ -1,13 +1,13 @@
--- `schedule_public::deleting::delete_by_time_filter` meets its contract.
+-- `deletions_public::reset` meets its contract.
 use borrow.Author.Needs.{needs}
 use Rattle.deletions.specs.Answers.{clearedPaper}
 use Rattle.schedule.proofs.Judging.{sound-by}
 use Rattle.schedule.proofs.Promises.{writes, writes-refused}
-use Rattle.schedule_public.proofs.deleting.delete_by_time_filter.Statement.{statement}
-use Rattle.schedule_public.proofs.deleting.delete_by_time_filter.Tie as tie
+use Rattle.deletions_public.proofs.reset.Statement.{statement}
+use Rattle.deletions_public.proofs.reset.Tie as tie
 
-delete-by-time-filter-requires : tie.Need-delete-by-time-filter-requires
-delete-by-time-filter-requires c κs =
+reset-requires : tie.Need-reset-requires
+reset-requires c κs =
     let j = c .before .before .before .before .before in
     sound-by _ _ _ _ _ _ (j .judge .ensures) (c .before .before .before .enum-told .given .1)
 
@@ -22,16 +22,16 @@ returns-2 c =
     let j = c .before .before .before .before .before .before .before .before .before .before .before .before in
     writes _ _ _ _ _ _ _ _ _ _ _ (sound-by _ _ _ _ _ _ (j .judge .ensures)
     (c .before .before .before .before .before .before .before .before .before .before .enum-told .given .1))
-    (c .before .before .before .before .before .before .delete-by-time-filter .ensures)
+    (c .before .before .before .before .before .before .reset .ensures)
 
-pub delete-by-time-filter-spec : {M : Type 1} → statement M
-delete-by-time-filter-spec =
+pub reset-spec : {M : Type 1} → statement M
+reset-spec =
     tie.close
     (tie.spec
     (λ c κs. search needs)
     (λ c. search needs)
     (λ c. search needs)
-    delete-by-time-filter-requires
+    reset-requires
     (λ c. search needs)
     (λ c. search needs)
     (λ c. search needs)
