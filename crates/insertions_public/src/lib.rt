@@ -1,16 +1,16 @@
 // The public calls of the three insertions (document 01, module 5): of a packet that is stored already, by a time and a packet, and by a wrapped
 // packet. Each judges, refusals 1 to 3 in one pass, and then does what its judged form does.
-use insertions::Inserted;
 use record::Changed;
 use record::Done;
 use record::Record;
 use schedule::Setup;
 use schedule::Verdict;
+use storing::Inserted;
 use time::UnixTime;
 ghost use Rattle.record.specs.Refusals.{donePaper};
 ghost use Rattle.schedule.specs.Judge.{judging};
 ghost use Rattle.schedule.specs.Promise.{Writes};
-ghost use Rattle.insertions.specs.Answers.{insertedPaper};
+ghost use Rattle.storing.specs.Answers.{insertedPaper};
 ghost use Rattle.gate.specs.Entering.{insertStoredIn};
 ghost use Rattle.insertions.specs.Inserting.{insertUnwrappedIn};
 ghost use Rattle.wrapped.specs.Wrapped.{insertWrappedIn};
@@ -65,7 +65,7 @@ pub fn insert_unwrapped_tc(
 {
     let j = schedule::judge(setup, rec, store, lens, rows);
     match j {
-        Verdict::Refused(e) => insertions::inserting::refuse(rec, e),
+        Verdict::Refused(e) => storing::refuse(rec, e),
         Verdict::Fine => insertions::inserting::insert_unwrapped_tc(
             setup,
             rec,
@@ -93,7 +93,7 @@ pub fn insert_wrapped_tc(
 {
     let j = schedule::judge(setup, rec, store, lens, rows);
     match j {
-        Verdict::Refused(e) => insertions::inserting::refuse(rec, e),
+        Verdict::Refused(e) => storing::refuse(rec, e),
         Verdict::Fine => wrapped::judged::insert_wrapped_tc(setup, rec, store, lens, rows, outer),
     }
 }

@@ -23,7 +23,7 @@ ghost use Rattle.sweep.specs.Answers.{lastPaper};
 ghost use Rattle.by_id.specs.Answers.{freedPaper, takenPaper};
 ghost use Rattle.windows.specs.Answers.{retrievedPaper};
 ghost use Rattle.face_words.specs.Inside.{eight, wordsOf};
-ghost use Rattle.insertions.specs.Answers.{insertedPaper};
+ghost use Rattle.storing.specs.Answers.{insertedPaper};
 ghost use Rattle.record.specs.Refusals.{donePaper, marginWords, paper, timeWords};
 ghost use Rattle.rules.specs.Papers.{no};
 ghost use Rattle.schedule.specs.Answers.{countedPaper};
@@ -106,12 +106,12 @@ pub fn counted(a: schedule::Counted) -> Words
     }
 }
 
-pub fn inserted(a: insertions::InsertAnswer) -> Words
+pub fn inserted(a: storing::InsertAnswer) -> Words
     ensures { λ r. ⌜ r ≡ wordsOf (insertedPaper a) ⌝ }
 {
     match a {
-        insertions::InsertAnswer::Inserted(i) => two(0, i.addr, i.request_id),
-        insertions::InsertAnswer::Refused(e) => refusal(e),
+        storing::InsertAnswer::Inserted(i) => two(0, i.addr, i.request_id),
+        storing::InsertAnswer::Refused(e) => refusal(e),
     }
 }
 

@@ -2,9 +2,9 @@
 use crate::calls;
 use crate::deleting;
 use crate::line;
-use insertions::Inserted;
 use lent::Lent;
 use record::Record;
+use storing::Inserted;
 
 pub fn run(
     b: Lent,

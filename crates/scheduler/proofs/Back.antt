@@ -17,9 +17,9 @@ use Rattle.windows.specs.declared.Retrieved.{Retrieved}
 use Rattle.by_id.specs.declared.TakeAnswer.the-variants as Ta
 use Rattle.by_id.specs.declared.TakeAnswer.{TakeAnswer}
 use Rattle.sweep.specs.declared.Tally.{Tally}
-use Rattle.insertions.specs.Answers.{insertedPaper}
-use Rattle.insertions.specs.declared.InsertAnswer.the-variants as I
-use Rattle.insertions.specs.declared.InsertAnswer.{InsertAnswer}
+use Rattle.storing.specs.Answers.{insertedPaper}
+use Rattle.storing.specs.declared.InsertAnswer.the-variants as I
+use Rattle.storing.specs.declared.InsertAnswer.{InsertAnswer}
 use Rattle.record.proofs.Numbers.{numbered}
 use Rattle.record.specs.Refusals.{donePaper, paper, wordOf}
 use Rattle.record.specs.declared.Done.the-variants as D

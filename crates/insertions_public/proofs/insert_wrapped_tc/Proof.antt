@@ -1,6 +1,6 @@
 -- `insertions_public::insert_wrapped_tc` meets its contract.
 use borrow.Author.Needs.{needs}
-use Rattle.insertions.specs.Answers.{insertedPaper}
+use Rattle.storing.specs.Answers.{insertedPaper}
 use Rattle.schedule.proofs.Judging.{sound-by}
 use Rattle.schedule.proofs.Promises.{writes, writes-refused}
 use Rattle.insertions_public.proofs.insert_wrapped_tc.Statement.{statement}

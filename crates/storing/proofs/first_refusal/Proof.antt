@@ -1,8 +1,8 @@
--- `insertions::inserting::first_refusal` meets its contract.
+-- `storing::first_refusal` meets its contract.
 use borrow.Author.Needs.{needs}
-use Rattle.insertions.specs.Inside.{firstRefusal}
-use Rattle.insertions.proofs.inserting.first_refusal.Statement.{statement}
-use Rattle.insertions.proofs.inserting.first_refusal.Tie as tie
+use Rattle.storing.specs.Inside.{firstRefusal}
+use Rattle.storing.proofs.first_refusal.Statement.{statement}
+use Rattle.storing.proofs.first_refusal.Tie as tie
 
 returns : tie.Need-returns
 unfolding firstRefusal

@@ -1,19 +1,15 @@
 -- What the store said of a packet decides what its insertion comes to.
 use Prim.Native.Nat.{_+_, _<_, ℕ}
 use lib.ListN.{getD, length}
-use mathlib.Core.Bool.{Bool, false, true}
+use mathlib.Core.Bool.{Bool, false}
 use mathlib.Core.List.{List, [], _∷_}
 use mathlib.Core.Path.{_≡_, _∙_, ap, refl, sym}
 use native.Mathlib.Omega.{arith}
-use Rattle.packet.specs.Packet.{idOf, idWord}
-use Rattle.packet.specs.declared.Header.{Header}
-use Rattle.packet.specs.declared.Reading.the-variants.{Packet}
 use Rattle.record.specs.Refusals.{paper}
 use Rattle.record.specs.declared.Record.{Record}
 use Rattle.record.specs.declared.ScheduleRefusal.{ScheduleRefusal}
 use Rattle.record.specs.declared.ScheduleRefusal.the-variants.{Store}
 use Rattle.rules.specs.Papers.{Outcome, after, done, no, refused, says}
-use Rattle.rules.specs.Tests.{unless}
 use Rattle.store.specs.Calls.{addIn}
 use Rattle.slots.specs.Pools.{Pool}
 use Rattle.store.specs.Refusals.{addedPaper}
@@ -29,14 +25,14 @@ use Rattle.table_edit.specs.Edits.{afterInsert, insertSorted}
 use Rattle.rows.specs.Entries.{entryOf, unpack}
 use Rattle.time.specs.Time.{inTimeMargin, momentOf}
 use Rattle.time.specs.declared.UnixTime.{UnixTime}
-use Rattle.insertions.specs.Answers.{insertedPaper}
+use Rattle.storing.specs.Answers.{insertedPaper}
 use Rattle.gate.specs.Entering.{enter}
-use Rattle.insertions.specs.Inserting.{activity, entered, nested}
-use Rattle.insertions.specs.Inside.{firstPaper, firstRefusal}
+use Rattle.storing.specs.Entered.{entered}
+use Rattle.storing.specs.Inside.{firstPaper, firstRefusal}
 use Rattle.schedule.specs.State.{State, recordOf, stateOf, withCount, withEntries, withPools}
 use Rattle.schedule.specs.Promise.{Does}
-use Rattle.insertions.specs.declared.InsertAnswer.{InsertAnswer}
-use Rattle.insertions.specs.declared.InsertAnswer.the-variants.{Refused}
+use Rattle.storing.specs.declared.InsertAnswer.{InsertAnswer}
+use Rattle.storing.specs.declared.InsertAnswer.the-variants.{Refused}
 use Rattle.schedule.specs.declared.Setup.{Setup}
 use Rattle.gate.proofs.Gates.{enters}
 use Rattle.schedule.proofs.Promises.{does-done}
@@ -63,17 +59,6 @@ pub blocked : (su : Setup) (t : UnixTime) (id : ℕ) (s : State) (o : Outcome (L
 unfolding entered firstPaper
 blocked su t id s (refused p) own g = refl
 blocked su t id s (done vs ps) own g = g (getD vs 0 0) (getD vs 0 0 ∷ id ∷ []) ps
-
--- a readable command, by whether it is itself an insertion
-module _ (su : Setup) (t : UnixTime) (tc : List ℕ) (s : State) (h : Header) where
-  pub nested-refused : nested h ≡ true → activity su t tc s (Packet h) ≡ refused (no 10 [])
-  unfolding activity unless
-  nested-refused e = rw e
-
-  pub plain-enters : nested h ≡ false
-      → activity su t tc s (Packet h) ≡ entered su t (idWord (idOf h)) s (addIn (su .store .spill) (s .pools) tc)
-  unfolding activity unless
-  plain-enters e = rw e
 
 -- stored and entered
 module _ (su : Setup) (r : Record) (st le ro : List ℕ) (t : UnixTime) (tc : List ℕ) (id : ℕ) (st′ le′ : List ℕ) where

@@ -1,4 +1,4 @@
--- `insertions::inserting::store_and_enter` meets its contract.
+-- `storing::store_and_enter` meets its contract.
 use mathlib.Core.Path.{_∙_, ap, sym}
 use native.Mathlib.Omega.{arith}
 use borrow.Author.Needs.{needs}
@@ -6,12 +6,12 @@ use Rattle.store.specs.Refusals.{addedPaper}
 use Rattle.table_edit.specs.Edits.{afterInsert}
 use Rattle.rows.specs.Entries.{entryOf}
 use Rattle.time.specs.declared.Moment.{Moment}
-use Rattle.insertions.specs.Answers.{insertedPaper}
-use Rattle.insertions.proofs.Adding.{enter-done, enter-refused}
+use Rattle.storing.specs.Answers.{insertedPaper}
+use Rattle.storing.proofs.Adding.{enter-done, enter-refused}
 use Rattle.gate.proofs.Gates.{spare}
 use Rattle.schedule.proofs.Facts.{facts, table-sound}
-use Rattle.insertions.proofs.inserting.store_and_enter.Statement.{statement}
-use Rattle.insertions.proofs.inserting.store_and_enter.Tie as tie
+use Rattle.storing.proofs.store_and_enter.Statement.{statement}
+use Rattle.storing.proofs.store_and_enter.Tie as tie
 
 add-requires : tie.Need-add-requires
 add-requires c κs = facts (c .before .before .before .before .before .before .before .pre .0) .store

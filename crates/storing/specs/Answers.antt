@@ -2,8 +2,8 @@
 use mathlib.Core.List.{[], _∷_}
 use Rattle.record.specs.Refusals.{paper}
 use Rattle.rules.specs.Papers.{Paper, no}
-use Rattle.insertions.specs.declared.InsertAnswer.{InsertAnswer}
-use Rattle.insertions.specs.declared.InsertAnswer.the-variants as I
+use Rattle.storing.specs.declared.InsertAnswer.{InsertAnswer}
+use Rattle.storing.specs.declared.InsertAnswer.the-variants as I
 
 unfoldable pub insertedPaper : InsertAnswer → Paper
 insertedPaper (I.Inserted i) = no 0 (i .addr ∷ i .«request_id» ∷ [])

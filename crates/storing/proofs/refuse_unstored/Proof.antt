@@ -1,8 +1,8 @@
--- `insertions::inserting::refuse_unstored` meets its contract.
+-- `storing::refuse_unstored` meets its contract.
 use borrow.Author.Needs.{needs}
-use Rattle.insertions.proofs.Adding.{answers-first}
-use Rattle.insertions.proofs.inserting.refuse_unstored.Statement.{statement}
-use Rattle.insertions.proofs.inserting.refuse_unstored.Tie as tie
+use Rattle.storing.proofs.Adding.{answers-first}
+use Rattle.storing.proofs.refuse_unstored.Statement.{statement}
+use Rattle.storing.proofs.refuse_unstored.Tie as tie
 
 returns : tie.Need-returns
 returns c = search (needs, answers-first)
