@@ -128,7 +128,7 @@ fn uplink(
 }
 
 fn sent(rec: Record, outer: &[u8], store: &mut [u8], lens: &mut [u16], rows: &mut [u64]) -> Record {
-    let i = schedule_public::insert_wrapped_tc(shift::setup(), rec, store, lens, rows, outer);
+    let i = insertions_public::insert_wrapped_tc(shift::setup(), rec, store, lens, rows, outer);
     let a = i.answer;
     answers::inserted(a);
     i.next

@@ -22,14 +22,16 @@ use Rattle.selection.specs.Windows.{firstRow, inWindow, outside}
 use Rattle.selection.specs.declared.Part.{Part}
 use Rattle.selection.specs.declared.MomentWindow.{MomentWindow}
 use Rattle.deletions.specs.Answers.{clearedPaper}
-use Rattle.deletions.specs.Deleting.{Swept, clearIn, deleteWindowIn, enabledAs, resetIn, sweep, tally, unswept}
+use Rattle.deletions.specs.Deleting.{clearIn, deleteWindowIn, enabledAs, resetIn}
+use Rattle.sweep.specs.Sweep.{Swept, sweep, tally, unswept}
 use Rattle.windows.specs.Inside.{Opens}
-use Rattle.deletions.specs.Inside.{Sweeps, clearPart, leftOf}
+use Rattle.sweep.specs.Inside.{Sweeps}
+use Rattle.deletions.specs.Inside.{clearPart, leftOf}
 use Rattle.schedule.specs.Promise.{Does}
 use Rattle.schedule.specs.State.{State, recordOf, stateOf, withEntries, withPools}
 use Rattle.deletions.specs.declared.ClearAnswer.the-variants.{Done, Refused}
 use Rattle.schedule.specs.declared.Setup.{Setup}
-use Rattle.deletions.specs.declared.Tally.{Tally}
+use Rattle.sweep.specs.declared.Tally.{Tally}
 use Rattle.windows.specs.declared.TimeWindow.{TimeWindow}
 use Rattle.windows.specs.declared.Opened.{Opened}
 use Rattle.windows.specs.declared.Opened.the-variants as O

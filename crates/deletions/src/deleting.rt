@@ -1,7 +1,6 @@
 // The deletions of several entries for a caller that has judged: by window, and all of them.
 use crate::ClearAnswer;
 use crate::Cleared;
-use crate::sweep::sweep;
 use record::Record;
 use schedule::Setup;
 use selection::Part;
@@ -78,7 +77,7 @@ fn clear(
 {
     let s = setup.store;
     let n = rec.count;
-    let t = sweep(s, store, lens, rows, n, part);
+    let t = sweep::sweep(s, store, lens, rows, n, part);
     table_edit::remove(rows, n, part.first, part.number);
     Cleared {
         next: left(rec, part.number, enabled),

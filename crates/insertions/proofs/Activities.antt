@@ -11,24 +11,36 @@ use Rattle.record.specs.Refusals.{paper}
 use Rattle.record.specs.declared.Record.{Record}
 use Rattle.record.specs.declared.ScheduleRefusal.{ScheduleRefusal}
 use Rattle.record.specs.declared.ScheduleRefusal.the-variants.{BadTime, NestedScheduledTc, TcUnreadable}
-use Rattle.rules.specs.Papers.{Paper, no}
+use Rattle.rules.specs.Papers.{Paper, no, refused}
 use Rattle.rules.specs.Tests.{unless}
 use Rattle.store.specs.Calls.{addIn}
 use Rattle.time.specs.Time.{inRange}
 use Rattle.slots.specs.View.{view}
 use Rattle.time.specs.declared.UnixTime.{UnixTime}
 use Rattle.gate.specs.Entering.{timed}
-use Rattle.insertions.specs.Inserting.{activity, entered, insertTc, insertUnwrappedIn, nested}
+use Rattle.insertions.specs.Inserting.{activity, insertTc, insertUnwrappedIn, nested}
+use Rattle.storing.specs.Entered.{entered}
 use Rattle.gate.specs.Inside.{Gate}
-use Rattle.insertions.specs.Inside.{firstPaper}
+use Rattle.storing.specs.Inside.{firstPaper}
 use Rattle.schedule.specs.Promise.{Does}
-use Rattle.schedule.specs.State.{stateOf, withPools}
+use Rattle.schedule.specs.State.{State, stateOf, withPools}
 use Rattle.schedule.specs.declared.Setup.{Setup}
 use Rattle.schedule.specs.declared.Verdict.{Verdict}
 use Rattle.schedule.specs.declared.Verdict.the-variants as Ve
-use Rattle.insertions.proofs.Adding.{blocked, nested-refused, plain-enters}
+use Rattle.storing.proofs.Adding.{blocked}
 use Rattle.gate.proofs.Gates.{gate-refused}
 use Rattle.schedule.proofs.Promises.{does-as, does-refused, record-same}
+
+-- a readable command, by whether it is itself an insertion
+module _ (su : Setup) (t : UnixTime) (tc : List ℕ) (s : State) (h : Header) where
+  nested-refused : nested h ≡ true → activity su t tc s (Packet h) ≡ refused (no 10 [])
+  unfolding activity unless
+  nested-refused e = rw e
+
+  plain-enters : nested h ≡ false
+      → activity su t tc s (Packet h) ≡ entered su t (idWord (idOf h)) s (addIn (su .store .spill) (s .pools) tc)
+  unfolding activity unless
+  plain-enters e = rw e
 
 module _ (su : Setup) (r : Record) (st le ro : List ℕ) (t : UnixTime) (tc : List ℕ) where
   pub does-unreadable : (f : Fault) → readOf 2 tc ≡ Unreadable f → Does su r st le ro (insertTc su t tc) (paper TcUnreadable) r st le ro

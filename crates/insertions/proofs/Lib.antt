@@ -1,3 +1,2 @@
 -- The facts by which the insertions by bytes are proved.
-pub mod Adding
 pub mod Activities

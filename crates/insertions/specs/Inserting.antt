@@ -1,26 +1,20 @@
 -- The insertions by bytes: a command of a time, 9 to 14; unwrapped, with 4 before them.
 use Prim.Native.Nat.{ℕ}
 use lib.Dec.{eqb}
-use lib.ListN.{getD}
 use mathlib.Core.Bool.{Bool, _&&_, not}
-use mathlib.Core.List.{List, [], _∷_}
-use Rattle.gate.specs.Entering.{enter, timed}
+use mathlib.Core.List.{List, []}
+use Rattle.gate.specs.Entering.{timed}
 use Rattle.packet.specs.Packet.{idOf, idWord, readOf}
 use Rattle.packet.specs.declared.Header.{Header}
 use Rattle.packet.specs.declared.Reading.{Reading}
 use Rattle.packet.specs.declared.Reading.the-variants.{Packet, Unreadable}
-use Rattle.rules.specs.Papers.{Outcome, done, no, refused}
+use Rattle.rules.specs.Papers.{Outcome, no, refused}
 use Rattle.rules.specs.Tests.{unless}
 use Rattle.store.specs.Calls.{addIn}
-use Rattle.slots.specs.Pools.{Pool}
+use Rattle.storing.specs.Entered.{entered}
 use Rattle.time.specs.declared.UnixTime.{UnixTime}
-use Rattle.schedule.specs.State.{State, withPools}
+use Rattle.schedule.specs.State.{State}
 use Rattle.schedule.specs.declared.Setup.{Setup}
-
--- the store's 11 and 12, then 13 and 14; it answers the address and the request ID
-unfoldable pub entered : Setup → UnixTime → ℕ → State → Outcome (List Pool) → Outcome State
-entered su t id s (refused p) = refused p
-entered su t id s (done vs ps) = enter su t id (getD vs 0 0) (getD vs 0 0 ∷ id ∷ []) (withPools ps s)
 
 -- a command that is itself an insertion
 abbrev pub nested : Header → Bool

@@ -1,9 +1,9 @@
 // Answers in words, each behind its request, with document 01's number.
 use crate::refusals;
-use insertions::InsertAnswer;
 use packet::RequestId;
 use record::Done;
 use store::Deleted;
+use storing::InsertAnswer;
 use text::out;
 use tick::TickAnswer;
 ghost use mathlib.Core.Path.{_≡_};

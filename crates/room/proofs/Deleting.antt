@@ -1,6 +1,7 @@
 -- The deletions on the smaller scheduler and on the larger.
 use Prim.Native.Nat.{ℕ}
-use Rattle.deletions.specs.Deleting.{Swept, clearIn, deleteWindowIn, enabledAs, resetIn, sweep, swept, unswept}
+use Rattle.deletions.specs.Deleting.{clearIn, deleteWindowIn, enabledAs, resetIn}
+use Rattle.sweep.specs.Sweep.{Swept, sweep, swept, unswept}
 use Rattle.by_id.specs.ById.{deleteByIdIn, deleteKeepingIn, freed, takeIn}
 use Rattle.windows.specs.Windowing.{windowOf, windowed}
 use Rattle.windows.specs.declared.TimeWindow.{TimeWindow}

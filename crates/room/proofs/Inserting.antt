@@ -1,6 +1,7 @@
 -- The insertions on the smaller scheduler and on the larger.
 use Prim.Native.Nat.{_<_, _≤_, ℕ}
-use Rattle.insertions.specs.Inserting.{activity, entered, insertUnwrappedIn}
+use Rattle.insertions.specs.Inserting.{activity, insertUnwrappedIn}
+use Rattle.storing.specs.Entered.{entered}
 use Rattle.gate.specs.Entering.{enter, insertStoredIn, timed}
 use Rattle.wrapped.specs.Wrapped.{insertWrappedIn, opened, stamped}
 use Rattle.packet.specs.Packet.{readOf, userDataOf}

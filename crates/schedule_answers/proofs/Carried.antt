@@ -1,14 +1,14 @@
 -- Refusal 13, and an answer that carries another, from the words that they hold.
 use Prim.Native.Nat.{ℕ}
-use Rattle.deletions.specs.Answers.{lastPaper}
+use Rattle.sweep.specs.Answers.{lastPaper}
 use Rattle.face_words.specs.Inside.{wordsOf}
 use Rattle.face_words.specs.Padding.{padded}
 use Rattle.rules.specs.Papers.{Paper, no}
 use Rattle.schedule_answers.specs.Inside.{carrying}
 use mathlib.Core.List.{List, [], _∷_}
 use mathlib.Core.Path.{_∙_, _≡_, ap, refl}
-use Rattle.deletions.specs.declared.Last.{Last}
-use Rattle.deletions.specs.declared.Last.the-variants as La
+use Rattle.sweep.specs.declared.Last.{Last}
+use Rattle.sweep.specs.declared.Last.the-variants as La
 use Rattle.lookup.specs.Refusals.{paper as storePaper}
 use Rattle.slots.specs.declared.StoreIdError.the-variants.{InvalidPacketIdx, InvalidSubpool}
 use Rattle.slots.specs.declared.StoreRefusal.{StoreRefusal}

@@ -18,11 +18,12 @@ ghost use mathlib.Core.Path.{_≡_};
 ghost use mathlib.Core.List.{[], _++_};
 ghost use Prim.Native.Nat.{_≤_};
 ghost use lib.ListN.{drop, length};
-ghost use Rattle.deletions.specs.Answers.{clearedPaper, lastPaper};
+ghost use Rattle.deletions.specs.Answers.{clearedPaper};
+ghost use Rattle.sweep.specs.Answers.{lastPaper};
 ghost use Rattle.by_id.specs.Answers.{freedPaper, takenPaper};
 ghost use Rattle.windows.specs.Answers.{retrievedPaper};
 ghost use Rattle.face_words.specs.Inside.{eight, wordsOf};
-ghost use Rattle.insertions.specs.Answers.{insertedPaper};
+ghost use Rattle.storing.specs.Answers.{insertedPaper};
 ghost use Rattle.record.specs.Refusals.{donePaper, marginWords, paper, timeWords};
 ghost use Rattle.rules.specs.Papers.{no};
 ghost use Rattle.counting.specs.Answers.{countedPaper};
@@ -105,12 +106,12 @@ pub fn counted(a: counting::Counted) -> Words
     }
 }
 
-pub fn inserted(a: insertions::InsertAnswer) -> Words
+pub fn inserted(a: storing::InsertAnswer) -> Words
     ensures { λ r. ⌜ r ≡ wordsOf (insertedPaper a) ⌝ }
 {
     match a {
-        insertions::InsertAnswer::Inserted(i) => two(0, i.addr, i.request_id),
-        insertions::InsertAnswer::Refused(e) => refusal(e),
+        storing::InsertAnswer::Inserted(i) => two(0, i.addr, i.request_id),
+        storing::InsertAnswer::Refused(e) => refusal(e),
     }
 }
 
@@ -144,12 +145,12 @@ fn behind(a: u64, b: u64, w: Words) -> Words
     }
 }
 
-fn last(a: deletions::Last) -> Words
+fn last(a: sweep::Last) -> Words
     ensures { λ r. ⌜ r ≡ wordsOf (lastPaper a) ⌝ }
 {
     match a {
-        deletions::Last::None => none(0),
-        deletions::Last::Missing(e) => store_refusal(e),
+        sweep::Last::None => none(0),
+        sweep::Last::Missing(e) => store_refusal(e),
     }
 }
 

@@ -19,20 +19,13 @@ pub fn run(
         return windowed(b, k, window(text), store, lens, rows);
     }
     if k == line::RESET {
-        return cleared(schedule_public::reset(b.setup, b.rec, store, lens, rows));
+        return cleared(deletions_public::reset(b.setup, b.rec, store, lens, rows));
     }
     let id = line::number(text, 1);
     if k == line::TAKE {
-        return taken(schedule_public::delete_by_request_id(b.setup, b.rec, store, lens, rows, id));
+        return taken(by_id_public::delete_by_request_id(b.setup, b.rec, store, lens, rows, id));
     }
-    let f = schedule_public::delete_by_request_id_and_from_pool(
-        b.setup,
-        b.rec,
-        store,
-        lens,
-        rows,
-        id,
-    );
+    let f = by_id_public::delete_by_request_id_and_from_pool(b.setup, b.rec, store, lens, rows, id);
     freed(f)
 }
 
@@ -45,7 +38,7 @@ fn windowed(
     rows: &mut [u64],
 ) -> Record {
     if k == line::DELETE {
-        return cleared(schedule_public::delete_by_time_filter(
+        return cleared(deletions_public::delete_by_time_filter(
             b.setup,
             b.rec,
             store,
@@ -54,7 +47,7 @@ fn windowed(
             w,
         ));
     }
-    shown::retrieved(schedule_public::retrieve_by_time_filter(
+    shown::retrieved(deletions_public::retrieve_by_time_filter(
         b.setup,
         b.rec,
         store,

@@ -2,9 +2,9 @@
 use crate::calls;
 use crate::deleting;
 use crate::line;
-use insertions::Inserted;
 use lent::Lent;
 use record::Record;
+use storing::Inserted;
 
 pub fn run(
     b: Lent,
@@ -24,7 +24,7 @@ pub fn run(
     if k == line::STORED {
         let id = line::number(text, 3);
         let addr = line::number(text, 4);
-        let c = schedule_public::insert_unwrapped_and_stored_tc(
+        let c = insertions_public::insert_unwrapped_and_stored_tc(
             b.setup,
             b.rec,
             store,
@@ -38,13 +38,13 @@ pub fn run(
     }
     let mut tc = [0u8; 64];
     let n = line::bytes(text, 3, &mut tc);
-    inserted(schedule_public::insert_unwrapped_tc(b.setup, b.rec, store, lens, rows, t, &tc[..n]))
+    inserted(insertions_public::insert_unwrapped_tc(b.setup, b.rec, store, lens, rows, t, &tc[..n]))
 }
 
 fn wrapped(b: Lent, text: &[u8], store: &mut [u8], lens: &mut [u16], rows: &mut [u64]) -> Record {
     let mut outer = [0u8; 64];
     let n = line::bytes(text, 1, &mut outer);
-    inserted(schedule_public::insert_wrapped_tc(b.setup, b.rec, store, lens, rows, &outer[..n]))
+    inserted(insertions_public::insert_wrapped_tc(b.setup, b.rec, store, lens, rows, &outer[..n]))
 }
 
 fn inserted(i: Inserted) -> Record {

@@ -1,7 +1,8 @@
 -- Each refusal of the schedule, and each answer of its calls, found again from its number and values.
 use Rattle.rules.proofs.Back.{answerOf}
 use Prim.Native.Nat.{ℕ}
-use Rattle.deletions.specs.Answers.{clearedPaper, lastPaper}
+use Rattle.deletions.specs.Answers.{clearedPaper}
+use Rattle.sweep.specs.Answers.{lastPaper}
 use Rattle.by_id.specs.Answers.{freedPaper, takenPaper}
 use Rattle.tick.specs.Promise.{tickPaper}
 use Rattle.windows.specs.Answers.{retrievedPaper}
@@ -9,16 +10,16 @@ use Rattle.deletions.specs.declared.ClearAnswer.the-variants as Cl
 use Rattle.deletions.specs.declared.ClearAnswer.{ClearAnswer}
 use Rattle.by_id.specs.declared.FreeAnswer.the-variants as F
 use Rattle.by_id.specs.declared.FreeAnswer.{FreeAnswer}
-use Rattle.deletions.specs.declared.Last.the-variants as La
-use Rattle.deletions.specs.declared.Last.{Last}
+use Rattle.sweep.specs.declared.Last.the-variants as La
+use Rattle.sweep.specs.declared.Last.{Last}
 use Rattle.windows.specs.declared.Retrieved.the-variants as R
 use Rattle.windows.specs.declared.Retrieved.{Retrieved}
 use Rattle.by_id.specs.declared.TakeAnswer.the-variants as Ta
 use Rattle.by_id.specs.declared.TakeAnswer.{TakeAnswer}
-use Rattle.deletions.specs.declared.Tally.{Tally}
-use Rattle.insertions.specs.Answers.{insertedPaper}
-use Rattle.insertions.specs.declared.InsertAnswer.the-variants as I
-use Rattle.insertions.specs.declared.InsertAnswer.{InsertAnswer}
+use Rattle.sweep.specs.declared.Tally.{Tally}
+use Rattle.storing.specs.Answers.{insertedPaper}
+use Rattle.storing.specs.declared.InsertAnswer.the-variants as I
+use Rattle.storing.specs.declared.InsertAnswer.{InsertAnswer}
 use Rattle.record.proofs.Numbers.{numbered}
 use Rattle.record.specs.Refusals.{donePaper, paper, wordOf}
 use Rattle.record.specs.declared.Done.the-variants as D

@@ -1,12 +1,14 @@
 -- What each call makes of a state that fits: a refusal, or a state that fits.
 use Rattle.rules.proofs.Cases.{either}
 use Prim.Native.Nat.{_<_, _≤_, suc, zero-le, ℕ}
-use Rattle.deletions.specs.Deleting.{Swept, clearIn, deleteWindowIn, resetIn, sweep, swept, unswept}
+use Rattle.deletions.specs.Deleting.{clearIn, deleteWindowIn, resetIn}
+use Rattle.sweep.specs.Sweep.{Swept, sweep, swept, unswept}
 use Rattle.by_id.specs.ById.{deleteByIdIn, deleteKeepingIn, freed, takeIn}
 use Rattle.record.specs.declared.Record.{Record}
 use Rattle.windows.specs.Windowing.{windowOf, windowed}
 use Rattle.windows.specs.declared.TimeWindow.{TimeWindow}
-use Rattle.insertions.specs.Inserting.{activity, entered, insertUnwrappedIn}
+use Rattle.insertions.specs.Inserting.{activity, insertUnwrappedIn}
+use Rattle.storing.specs.Entered.{entered}
 use Rattle.gate.specs.Entering.{enter, insertStoredIn, timed}
 use Rattle.wrapped.specs.Wrapped.{insertWrappedIn, opened, stamped}
 use Rattle.packet.specs.Packet.{idOf, idWord, readOf, userDataOf}

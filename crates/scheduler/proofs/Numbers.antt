@@ -5,7 +5,8 @@ use Rattle.deletions.specs.Deleting.{clearIn, deleteWindowIn, resetIn}
 use Rattle.by_id.specs.ById.{deleteByIdIn, deleteKeepingIn, freed, takeIn}
 use Rattle.windows.specs.Windowing.{retrieveIn, windowed}
 use Rattle.windows.specs.declared.TimeWindow.{TimeWindow}
-use Rattle.insertions.specs.Inserting.{activity, entered, insertUnwrappedIn}
+use Rattle.insertions.specs.Inserting.{activity, insertUnwrappedIn}
+use Rattle.storing.specs.Entered.{entered}
 use Rattle.gate.specs.Entering.{enter, insertStoredIn, timed}
 use Rattle.wrapped.specs.Wrapped.{insertWrappedIn, opened, stamped}
 use Rattle.packet.specs.Packet.{readOf, userDataOf}

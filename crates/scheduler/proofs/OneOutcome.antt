@@ -8,8 +8,8 @@ use Rattle.deletions.specs.declared.ClearAnswer.the-variants as Cl
 use Rattle.by_id.specs.declared.FreeAnswer.the-variants as F
 use Rattle.windows.specs.declared.Retrieved.the-variants as R
 use Rattle.by_id.specs.declared.TakeAnswer.the-variants as Ta
-use Rattle.insertions.specs.Answers.{insertedPaper}
-use Rattle.insertions.specs.declared.InsertAnswer.the-variants as I
+use Rattle.storing.specs.Answers.{insertedPaper}
+use Rattle.storing.specs.declared.InsertAnswer.the-variants as I
 use Rattle.record.specs.Refusals.{donePaper}
 use Rattle.record.specs.declared.Done.the-variants as D
 use Rattle.record.specs.declared.Done.{Done}

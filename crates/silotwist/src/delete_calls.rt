@@ -39,7 +39,7 @@ pub extern "C" fn silotwist_delete_window(
     let from = face_reading::time(from_secs, from_nanos);
     let to = face_reading::time(to_secs, to_nanos);
     let v = face_reading::window(has_from, from, has_to, to);
-    let c = schedule_public::delete_by_time_filter(su, r, store, lens, rows, v);
+    let c = deletions_public::delete_by_time_filter(su, r, store, lens, rows, v);
     let a = c.answer;
     let w = schedule_answers::cleared(a);
     telling::with_count(record, c.next.count, answer, w)
@@ -70,7 +70,7 @@ pub extern "C" fn silotwist_delete_by_id_keep(
         return schedule_answers::short(answer, su);
     }
     let r = face_reading::record(record);
-    let c = schedule_public::delete_by_request_id(su, r, store, lens, rows, request_id);
+    let c = by_id_public::delete_by_request_id(su, r, store, lens, rows, request_id);
     let a = c.answer;
     let w = schedule_answers::taken(a);
     telling::with_count(record, c.next.count, answer, w)
@@ -101,14 +101,7 @@ pub extern "C" fn silotwist_delete_by_id(
         return schedule_answers::short(answer, su);
     }
     let r = face_reading::record(record);
-    let c = schedule_public::delete_by_request_id_and_from_pool(
-        su,
-        r,
-        store,
-        lens,
-        rows,
-        request_id,
-    );
+    let c = by_id_public::delete_by_request_id_and_from_pool(su, r, store, lens, rows, request_id);
     let a = c.answer;
     let w = schedule_answers::freed(a);
     telling::with_count(record, c.next.count, answer, w)

@@ -31,7 +31,7 @@ pub extern "C" fn silotwist_insert_wrapped(
         return schedule_answers::short(answer, su);
     }
     let r = face_reading::record(record);
-    let c = schedule_public::insert_wrapped_tc(su, r, store, lens, rows, packet);
+    let c = insertions_public::insert_wrapped_tc(su, r, store, lens, rows, packet);
     let a = c.answer;
     let w = schedule_answers::inserted(a);
     telling::with_count(record, c.next.count, answer, w)
@@ -65,7 +65,7 @@ pub extern "C" fn silotwist_insert_unwrapped(
     }
     let r = face_reading::record(record);
     let t = face_reading::time(secs, nanos);
-    let c = schedule_public::insert_unwrapped_tc(su, r, store, lens, rows, t, packet);
+    let c = insertions_public::insert_unwrapped_tc(su, r, store, lens, rows, t, packet);
     let a = c.answer;
     let w = schedule_answers::inserted(a);
     telling::with_count(record, c.next.count, answer, w)
@@ -100,7 +100,7 @@ pub extern "C" fn silotwist_insert_stored(
     }
     let r = face_reading::record(record);
     let t = face_reading::time(secs, nanos);
-    let c = schedule_public::insert_unwrapped_and_stored_tc(
+    let c = insertions_public::insert_unwrapped_and_stored_tc(
         su,
         r,
         store,

@@ -69,7 +69,7 @@ pub extern "C" fn silotwist_window(
     let from = face_reading::time(from_secs, from_nanos);
     let to = face_reading::time(to_secs, to_nanos);
     let v = face_reading::window(has_from, from, has_to, to);
-    let a = schedule_public::retrieve_by_time_filter(su, r, store, lens, rows, v);
+    let a = deletions_public::retrieve_by_time_filter(su, r, store, lens, rows, v);
     let w = schedule_answers::retrieved(a);
     telling::put(answer, w)
 }
@@ -98,7 +98,7 @@ pub extern "C" fn silotwist_reset(
         return schedule_answers::short(answer, su);
     }
     let r = face_reading::record(record);
-    let c = schedule_public::reset(su, r, store, lens, rows);
+    let c = deletions_public::reset(su, r, store, lens, rows);
     let a = c.answer;
     let w = schedule_answers::cleared(a);
     telling::with_reset(record, c.next.count, answer, w)

@@ -105,7 +105,7 @@ fn packet(
     lens: &mut [u16],
     rows: &mut [u64],
 ) -> Record {
-    let p = schedule_public::insert_unwrapped_tc(
+    let p = insertions_public::insert_unwrapped_tc(
         setup,
         rec,
         store,
@@ -183,7 +183,7 @@ fn insert(
     let mut r = rec;
     let mut i: usize = 0;
     while i < count {
-        let c = schedule_public::insert_unwrapped_and_stored_tc(
+        let c = insertions_public::insert_unwrapped_and_stored_tc(
             setup,
             r,
             store,

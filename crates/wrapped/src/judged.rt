@@ -1,18 +1,18 @@
 // The wrapped insertion, for a caller that has judged: the outer packet is opened, and its user data is a stamp and the command.
-use insertions::Inserted;
 use insertions::inserting;
-use insertions::inserting::refuse;
 use packet::Header;
 use packet::Reading;
 use record::Record;
 use record::ScheduleRefusal;
 use schedule::Setup;
 use stamp::Stamp;
+use storing::Inserted;
+use storing::refuse;
 ghost use mathlib.Core.Path.{_≡_};
 ghost use Rattle.packet.specs.Packet.{readOf, userDataOf};
 ghost use Rattle.packet.specs.declared.Reading.the-variants.{Packet};
 ghost use Rattle.stamp.specs.Stamp.{stampOf};
-ghost use Rattle.insertions.specs.Answers.{insertedPaper};
+ghost use Rattle.storing.specs.Answers.{insertedPaper};
 ghost use Rattle.wrapped.specs.Wrapped.{insertWrappedIn, opened, stamped};
 ghost use Rattle.schedule.specs.Judge.{Sound};
 ghost use Rattle.schedule.specs.Promise.{Does};

@@ -1,6 +1,6 @@
 -- `schedule_answers::inserted` meets its contract.
 use Rattle.face_words.proofs.Told.{told}
-use Rattle.insertions.specs.Answers.{insertedPaper}
+use Rattle.storing.specs.Answers.{insertedPaper}
 use borrow.Author.Needs.{needs}
 use Rattle.schedule_answers.proofs.inserted.Statement.{statement}
 use Rattle.schedule_answers.proofs.inserted.Tie as tie

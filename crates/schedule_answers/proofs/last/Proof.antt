@@ -1,5 +1,5 @@
 -- `schedule_answers::last` meets its contract.
-use Rattle.deletions.specs.Answers.{lastPaper}
+use Rattle.sweep.specs.Answers.{lastPaper}
 use Rattle.face_words.proofs.Told.{told}
 use borrow.Author.Needs.{needs}
 use Rattle.schedule_answers.proofs.last.Statement.{statement}

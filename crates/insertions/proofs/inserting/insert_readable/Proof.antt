@@ -3,7 +3,7 @@ use mathlib.Core.Bool.{false}
 use mathlib.Core.Path.{_≡_, _∙_, ap, sym}
 use borrow.Author.Needs.{needs}
 use Rattle.packet.specs.Packet.{idWord}
-use Rattle.insertions.specs.Answers.{insertedPaper}
+use Rattle.storing.specs.Answers.{insertedPaper}
 use Rattle.insertions.specs.Inserting.{nested}
 use Rattle.insertions.proofs.Activities.{does-blocked, does-nested, does-plain}
 use Rattle.gate.proofs.Gates.{gate-fine}

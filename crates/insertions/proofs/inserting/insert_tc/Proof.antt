@@ -1,7 +1,7 @@
 -- `insertions::inserting::insert_tc` meets its contract.
 use mathlib.Core.Path.{_∙_, sym}
 use borrow.Author.Needs.{needs}
-use Rattle.insertions.specs.Answers.{insertedPaper}
+use Rattle.storing.specs.Answers.{insertedPaper}
 use Rattle.insertions.proofs.Activities.{does-readable, does-unreadable}
 use Rattle.insertions.proofs.inserting.insert_tc.Statement.{statement}
 use Rattle.insertions.proofs.inserting.insert_tc.Tie as tie

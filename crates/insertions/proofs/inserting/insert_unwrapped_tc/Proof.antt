@@ -5,7 +5,7 @@ use borrow.Author.Needs.{needs}
 use borrow.Author.Tests.{not-false, not-true}
 use Rattle.time.proofs.Judged.{time-judged}
 use Rattle.time.specs.Time.{inRange}
-use Rattle.insertions.specs.Answers.{insertedPaper}
+use Rattle.storing.specs.Answers.{insertedPaper}
 use Rattle.insertions.proofs.Activities.{unwrapped-bad, unwrapped-timed}
 use Rattle.insertions.proofs.inserting.insert_unwrapped_tc.Statement.{statement}
 use Rattle.insertions.proofs.inserting.insert_unwrapped_tc.Tie as tie

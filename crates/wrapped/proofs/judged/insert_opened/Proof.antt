@@ -5,7 +5,7 @@ use mathlib.Core.List.{List}
 use mathlib.Core.Path.{subst}
 use borrow.Author.Needs.{needs}
 use Rattle.packet.specs.Packet.{userDataOf}
-use Rattle.insertions.specs.Answers.{insertedPaper}
+use Rattle.storing.specs.Answers.{insertedPaper}
 use Rattle.wrapped.proofs.Wrapping.{no-data, some-data, wrong-service, wrong-subservice}
 use Rattle.wrapped.proofs.judged.insert_opened.Statement.{statement}
 use Rattle.wrapped.proofs.judged.insert_opened.Tie as tie

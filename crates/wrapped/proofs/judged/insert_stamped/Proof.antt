@@ -8,7 +8,7 @@ use native.Mathlib.Omega.{arith}
 use borrow.Author.Needs.{needs}
 use Rattle.stamp.proofs.Fits.{stamp-fits}
 use Rattle.stamp.specs.Stamp.{Timely}
-use Rattle.insertions.specs.Answers.{insertedPaper}
+use Rattle.storing.specs.Answers.{insertedPaper}
 use Rattle.wrapped.proofs.Wrapping.{stamp-at, stamp-refused}
 use Rattle.wrapped.proofs.judged.insert_stamped.Statement.{statement}
 use Rattle.wrapped.proofs.judged.insert_stamped.Tie as tie

@@ -1,7 +1,7 @@
 -- `wrapped::judged::insert_wrapped_tc` meets its contract.
 use mathlib.Core.Path.{_∙_, sym}
 use borrow.Author.Needs.{needs}
-use Rattle.insertions.specs.Answers.{insertedPaper}
+use Rattle.storing.specs.Answers.{insertedPaper}
 use Rattle.wrapped.proofs.Wrapping.{wrapped-opened, wrapped-unreadable}
 use Rattle.wrapped.proofs.judged.insert_wrapped_tc.Statement.{statement}
 use Rattle.wrapped.proofs.judged.insert_wrapped_tc.Tie as tie

@@ -1,0 +1,2 @@
+-- The facts by which storing and entering are proved.
+pub mod Adding

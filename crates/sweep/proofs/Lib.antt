@@ -1,0 +1,2 @@
+-- The facts by which a sweep is proved.
+pub mod Sweeping
