@@ -1,8 +1,8 @@
--- `lookup::lent` meets its contract.
-use Rattle.lookup.proofs.Asks.{lends-at, lends-refused}
+-- `reading::lent` meets its contract.
+use Rattle.reading.proofs.Lending.{lends-at, lends-refused}
 use borrow.Author.Needs.{needs}
-use Rattle.lookup.proofs.lent.Statement.{statement}
-use Rattle.lookup.proofs.lent.Tie as tie
+use Rattle.reading.proofs.lent.Statement.{statement}
+use Rattle.reading.proofs.lent.Tie as tie
 
 find-requires : tie.Need-find-requires
 find-requires c κs = c .before .before .pre

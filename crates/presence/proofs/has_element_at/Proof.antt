@@ -1,14 +1,14 @@
--- `lookup::len_of_data` meets its contract.
+-- `presence::has_element_at` meets its contract.
 use Prim.Native.Nat.{_<_}
 use Rattle.layout.proofs.Bounds.{bounds}
-use Rattle.lookup.proofs.Asks.{len-held, len-refused, len-vacant}
+use Rattle.presence.proofs.Asks.{has-held, has-refused, has-vacant}
 use Rattle.slots.proofs.Place.{row-inside}
 use lib.ListN.{length}
 use mathlib.Core.Path.{_∙_, sym}
 use native.Mathlib.Omega.{arith}
 use borrow.Author.Needs.{needs}
-use Rattle.lookup.proofs.len_of_data.Statement.{statement}
-use Rattle.lookup.proofs.len_of_data.Tie as tie
+use Rattle.presence.proofs.has_element_at.Statement.{statement}
+use Rattle.presence.proofs.has_element_at.Tie as tie
 
 validate-requires : tie.Need-validate-requires
 validate-requires c κs = bounds (c .before .before .before .pre) .few-pools
@@ -19,15 +19,15 @@ inside c =
     let s = c .before .before .before .before .before .before in
     row-inside _ (s .args .lens .now) _ _ _ (bounds (s .pre) .rows-fit) (sym (c .before .before .validate .ensures) ∙ c .spot2 .given .1)
 
-mul-w : tie.Need-mul-w
-mul-w c = omega (arith, inside (c .before))
+mul-if1 : tie.Need-mul-if1
+mul-if1 c = omega (arith, inside (c .before))
 
-shared-slice-read-w : tie.Need-shared-slice-read-w
-shared-slice-read-w c = inside (c .before .before)
+shared-slice-read-if1 : tie.Need-shared-slice-read-if1
+shared-slice-read-if1 c = inside (c .before .before)
 
 returns : tie.Need-returns
 returns c =
-    len-vacant _ (c .before .before .before .before .before .before .before .before .before .args .store .now) _ _ _ _
+    has-vacant _ (c .before .before .before .before .before .before .before .before .before .args .store .now) _ _ _ _
     (c .before .before .before .before .before .before .decode .ensures .0)
     (c .before .before .before .before .before .before .decode .ensures .1) _
     (sym (c .before .before .before .before .before .validate .ensures) ∙ c .before .before .before .spot2 .given .1)
@@ -35,29 +35,28 @@ returns c =
 
 returns-2 : tie.Need-returns-2
 returns-2 c =
-    len-refused _ (c .before .before .before .before .before .before .before .args .store .now) _ _ _ _
+    has-refused _ (c .before .before .before .before .before .before .before .args .store .now) _ _ _ _
     (c .before .before .before .before .decode .ensures .0) (c .before .before .before .before .decode .ensures .1) _
     (sym (c .before .before .before .validate .ensures) ∙ c .before .spot .given .1)
 
 returns-3 : tie.Need-returns-3
 returns-3 c =
-    len-held _ (c .before .before .before .before .before .before .before .before .before .before .args .store .now) _ _ _ _
-    (c .before .before .before .before .before .before .before .decode .ensures .0)
-    (c .before .before .before .before .before .before .before .decode .ensures .1) _
-    (sym (c .before .before .before .before .before .before .validate .ensures)
-    ∙ c .before .before .before .before .spot2 .given .1) (c .before .if1 .left) _ (c .wide .ensures .0)
+    has-held _ (c .before .before .before .before .before .before .before .before .before .args .store .now) _ _ _ _
+    (c .before .before .before .before .before .before .decode .ensures .0)
+    (c .before .before .before .before .before .before .decode .ensures .1) _
+    (sym (c .before .before .before .before .before .validate .ensures) ∙ c .before .before .before .spot2 .given .1)
+    (c .if1 .left)
 
-pub len-of-data-spec : {M : Type 1} → statement M
-len-of-data-spec =
+pub has-element-at-spec : {M : Type 1} → statement M
+has-element-at-spec =
     tie.close
     (tie.spec
     (λ c κs. search needs)
     validate-requires
     (λ c. search needs)
     (λ c. search needs)
-    mul-w
-    shared-slice-read-w
+    mul-if1
+    shared-slice-read-if1
     returns
-    (λ c κs. search needs)
     returns-2
     returns-3)

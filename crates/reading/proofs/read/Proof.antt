@@ -1,14 +1,14 @@
--- `lookup::read` meets its contract.
+-- `reading::read` meets its contract.
 use Prim.Native.Nat.{ℕ}
-use Rattle.lookup.proofs.Asks.{read-at, read-refused, read-small, span-inside}
+use Rattle.reading.proofs.Copied.{read-at, read-refused, read-small, span-inside}
 use Rattle.slots.proofs.Lists.{taken-out}
 use Rattle.slots.specs.Pools.{over}
 use mathlib.Core.List.{List}
 use mathlib.Core.Path.{_∙_, ap, refl}
 use native.Mathlib.Omega.{arith}
 use borrow.Author.Needs.{needs}
-use Rattle.lookup.proofs.read.Statement.{statement}
-use Rattle.lookup.proofs.read.Tie as tie
+use Rattle.reading.proofs.read.Statement.{statement}
+use Rattle.reading.proofs.read.Tie as tie
 
 find-requires : tie.Need-find-requires
 find-requires c κs = c .before .before .before .pre

@@ -1,8 +1,8 @@
--- `lookup::modify` meets its contract.
-use Rattle.lookup.proofs.Asks.{modify-at, modify-refused}
+-- `reading::modify` meets its contract.
+use Rattle.reading.proofs.Lending.{modify-at, modify-refused}
 use borrow.Author.Needs.{needs}
-use Rattle.lookup.proofs.modify.Statement.{statement}
-use Rattle.lookup.proofs.modify.Tie as tie
+use Rattle.reading.proofs.modify.Statement.{statement}
+use Rattle.reading.proofs.modify.Tie as tie
 
 find-requires : tie.Need-find-requires
 find-requires c κs = c .before .before .pre
