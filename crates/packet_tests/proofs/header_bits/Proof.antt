@@ -1,13 +1,13 @@
--- `packet::tests::header_bits` meets its contract.
+-- `packet_tests::header_bits` meets its contract.
 use Prim.Native.Nat.{_/_, ℕ}
-use Rattle.packet.proofs.Bits.{bits-are}
-use Rattle.packet.specs.Packet.{headerBits}
+use Rattle.packet_tests.proofs.Bits.{bits-are}
+use Rattle.packet_tests.specs.Tests.{headerBits}
 use Rattle.words.specs.Words.{number}
 use lib.Dec.{eqb}
 use mathlib.Core.Path.{_∙_, ap}
 use borrow.Author.Needs.{needs}
-use Rattle.packet.proofs.tests.header_bits.Statement.{statement}
-use Rattle.packet.proofs.tests.header_bits.Tie as tie
+use Rattle.packet_tests.proofs.header_bits.Statement.{statement}
+use Rattle.packet_tests.proofs.header_bits.Tie as tie
 
 returns : tie.Need-returns
 unfolding headerBits

@@ -1,7 +1,7 @@
--- `packet::tests::header` meets its contract.
+-- `packet::fields::header` meets its contract.
 use borrow.Author.Needs.{needs}
-use Rattle.packet.proofs.tests.header.Statement.{statement}
-use Rattle.packet.proofs.tests.header.Tie as tie
+use Rattle.packet.proofs.fields.header.Statement.{statement}
+use Rattle.packet.proofs.fields.header.Tie as tie
 
 returns : tie.Need-returns
 returns c =

@@ -1,9 +1,9 @@
--- `packet::tests::version_nibble` meets its contract.
-use Rattle.packet.specs.Packet.{versionNibble}
+-- `packet_tests::version_nibble` meets its contract.
+use Rattle.packet_tests.specs.Tests.{versionNibble}
 use mathlib.Core.Path.{refl}
 use borrow.Author.Needs.{needs}
-use Rattle.packet.proofs.tests.version_nibble.Statement.{statement}
-use Rattle.packet.proofs.tests.version_nibble.Tie as tie
+use Rattle.packet_tests.proofs.version_nibble.Statement.{statement}
+use Rattle.packet_tests.proofs.version_nibble.Tie as tie
 
 returns : tie.Need-returns
 unfolding versionNibble

@@ -1,13 +1,12 @@
-// Module 2's tests, one function each, and the header's fields: for bytes of which there are at least 13.
-use crate::Header;
+// Module 2's tests (document 01; CCSDS 133.0-B, ECSS-E-ST-70-41C), one function each: for bytes of which there are at least 13.
 ghost use mathlib.Core.Path.{_≡_};
 ghost use mathlib.Core.Bool.{true};
 ghost use Prim.Native.Nat.{_≤_};
 ghost use lib.ListN.{length};
-ghost use Rattle.packet.specs.Packet.{checkBytes, headerBits, headerOf, totalInBounds, totalOf, versionNibble};
+ghost use Rattle.packet_tests.specs.Tests.{checkBytes, headerBits, totalInBounds, totalOf, versionNibble};
 
 // The length field and 7.
-fn total(bytes: &[u8]) -> usize
+pub fn total(bytes: &[u8]) -> usize
     requires { ⌜ 13 ≤ length (now bytes) ⌝ }
     ensures { λ r. ⌜ (r ≡ totalOf (now (bytes .entry))) × (r ≤ 65542) ⌝ }
 {
@@ -46,21 +45,4 @@ pub fn check_bytes(bytes: &[u8]) -> bool
     let end = total(bytes) - 2;
     let code = check_code::of(&bytes[..end]) as u64;
     words::read(bytes, end, 2) == code
-}
-
-pub fn header(bytes: &[u8]) -> Header
-    requires { ⌜ 13 ≤ length (now bytes) ⌝ }
-    ensures { λ r. ⌜ r ≡ headerOf 2 (now (bytes .entry)) ⌝ }
-{
-    let id = words::read(bytes, 0, 2);
-    let seq = words::read(bytes, 2, 2);
-    let source = words::read(bytes, 9, 2);
-    Header {
-        service: bytes[7],
-        subservice: bytes[8],
-        source_id: source as u16,
-        apid: (id % 2048) as u16,
-        seq_count: (seq % 16384) as u16,
-        total: total(bytes),
-    }
 }

@@ -1,8 +1,8 @@
--- `packet::tests::check_bytes` meets its contract: the total lies within the bytes, so the part before its last two is there.
+-- `packet_tests::check_bytes` meets its contract: the total lies within the bytes, so the part before its last two is there.
 use Prim.Native.Nat.{_-_, _≤_, ℕ}
 use Rattle.check_code.specs.CheckCode.{checkCode}
-use Rattle.packet.proofs.Readable.{total-fits}
-use Rattle.packet.specs.Packet.{checkBytes, totalOf}
+use Rattle.packet_tests.proofs.Bounds.{total-fits}
+use Rattle.packet_tests.specs.Tests.{checkBytes, totalOf}
 use Rattle.words.specs.Words.{number}
 use lib.Dec.{eqb}
 use lib.ListN.{length, take}
@@ -11,8 +11,8 @@ use mathlib.Core.List.{List}
 use mathlib.Core.Path.{_≡_, sym}
 use native.Mathlib.Omega.{arith}
 use borrow.Author.Needs.{needs}
-use Rattle.packet.proofs.tests.check_bytes.Statement.{statement}
-use Rattle.packet.proofs.tests.check_bytes.Tie as tie
+use Rattle.packet_tests.proofs.check_bytes.Statement.{statement}
+use Rattle.packet_tests.proofs.check_bytes.Tie as tie
 
 fits : (c : tie.After-total) → (13 ≤ c .total .result) × (c .total .result ≤ length (c .before .before .args .bytes .now))
 fits c =

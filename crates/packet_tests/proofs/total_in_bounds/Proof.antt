@@ -1,6 +1,6 @@
--- `packet::tests::total_in_bounds` meets its contract.
+-- `packet_tests::total_in_bounds` meets its contract.
 use Prim.Native.Nat.{_<_, _≤_, ℕ}
-use Rattle.packet.specs.Packet.{totalInBounds, totalOf}
+use Rattle.packet_tests.specs.Tests.{totalInBounds, totalOf}
 use Rattle.rules.specs.Tests.{allOf}
 use borrow.Author.Tests.{le-leb, lt-leb}
 use lib.Dec.{leb}
@@ -10,8 +10,8 @@ use mathlib.Core.List.{List}
 use mathlib.Core.Path.{_≡_, sym}
 use native.Mathlib.Omega.{arith}
 use borrow.Author.Needs.{needs}
-use Rattle.packet.proofs.tests.total_in_bounds.Statement.{statement}
-use Rattle.packet.proofs.tests.total_in_bounds.Tie as tie
+use Rattle.packet_tests.proofs.total_in_bounds.Statement.{statement}
+use Rattle.packet_tests.proofs.total_in_bounds.Tie as tie
 
 at-total : (s : List ℕ) (t : ℕ) → t ≡ totalOf s → 13 ≤ totalOf s → leb t (length s) ≡ totalInBounds 2 s
 unfolding totalInBounds allOf
