@@ -14,11 +14,12 @@ use Rattle.scheduler.specs.Fits.{OfBytes}
 use Rattle.scheduler.specs.Laws.{StepsAs}
 use Rattle.scheduler.specs.Steps.{Answer, Request, add, carried, count, delete, deleteById, deleteKeeping, deleteWindow, disable, enable, hasElementAt, insertStored, insertUnwrapped, insertWrapped, lenOfData, looked, modify, read, reset, retrieve, setClock, step, tick}
 use Rattle.lookup.proofs.Judging.{judging-fine as store-judging-fine}
-use Rattle.lookup.specs.Calls.{ifHeld, ifNamed, packetIn, readIn}
+use Rattle.lookup.specs.Calls.{ifHeld, ifNamed, packetIn}
 use Rattle.layout.specs.Judge.{Sound as StoreSound}
 use Rattle.slots.specs.Pools.{Found, Pool, find, held, noPool, noSlot, vacant}
 use Rattle.slots.specs.View.{put, view}
 use Rattle.lookup.specs.Promise.{packetStart}
+use Rattle.reading.specs.Reading.{readIn}
 use Rattle.layout.specs.declared.Setup.{Setup as StoreSetup}
 use Rattle.store.proofs.Rows.{RowSays, row-says}
 use lib.ListN.{length, take}

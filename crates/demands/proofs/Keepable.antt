@@ -18,7 +18,9 @@ use Rattle.schedule.specs.State.{State, recordOf}
 use Rattle.schedule.specs.declared.Setup.{Setup}
 use Rattle.scheduler.specs.Steps.{Answer, Request, add, count, delete, deleteById, deleteKeeping, deleteWindow, disable, enable, hasElementAt, insertStored, insertUnwrapped, insertWrapped, lenOfData, modify, read, reset, retrieve, setClock, tick}
 use Rattle.store.specs.Calls.{addIn, deleteIn}
-use Rattle.lookup.specs.Calls.{hasIn, judging as storeJudging, lenIn, packetIn, readIn}
+use Rattle.lookup.specs.Calls.{judging as storeJudging, packetIn}
+use Rattle.presence.specs.Presence.{hasIn, lenIn}
+use Rattle.reading.specs.Reading.{readIn}
 use Rattle.slots.specs.Pools.{Pool}
 use Rattle.slots.specs.View.{lensWith, storeWith}
 use Rattle.rows.specs.Entries.{relaid}

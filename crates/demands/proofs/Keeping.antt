@@ -16,10 +16,11 @@ use Rattle.scheduler.proofs.RefusalKeeps.{call-keeps}
 use Rattle.scheduler.proofs.Releasing.{tick-keeps}
 use Rattle.scheduler.specs.Laws.{AnsweredOrRefused}
 use Rattle.scheduler.specs.Steps.{Answer, Request, add, bufferOf, count, delete, deleteById, deleteKeeping, deleteWindow, disable, enable, hasElementAt, insertStored, insertUnwrapped, insertWrapped, lenOfData, modify, read, reset, retrieve, setClock, tick}
-use Rattle.lookup.specs.Calls.{judging as storeJudging, packetIn, readIn}
+use Rattle.lookup.specs.Calls.{judging as storeJudging, packetIn}
 use Rattle.layout.specs.Judge.{judged}
 use Rattle.slots.specs.Pools.{Pool}
 use Rattle.lookup.specs.Promise.{packetStart}
+use Rattle.reading.specs.Reading.{readIn}
 use Rattle.slots.specs.View.{lensWith, put, storeWith, view}
 use Rattle.tick.specs.Tick.{Logged}
 use Rattle.time.specs.Time.{inRange, marginInRange}

@@ -17,10 +17,12 @@ use Rattle.schedule.specs.State.{State}
 use Rattle.schedule.specs.declared.Setup.{Setup}
 use Rattle.scheduler.specs.Steps.{Answer, Request, add, bufferOf, count, delete, deleteById, deleteKeeping, deleteWindow, disable, enable, hasElementAt, insertStored, insertUnwrapped, insertWrapped, lenOfData, modify, read, reset, retrieve, setClock, tick}
 use Rattle.store.specs.Calls.{addIn, deleteIn}
-use Rattle.lookup.specs.Calls.{hasIn, judging as storeJudging, lenIn, packetIn, readIn}
+use Rattle.lookup.specs.Calls.{judging as storeJudging, packetIn}
 use Rattle.slots.specs.Pools.{Pool}
 use Rattle.store.specs.Promise.{Writes as StoreWrites}
 use Rattle.lookup.specs.Promise.{Reads, packetStart}
+use Rattle.presence.specs.Presence.{hasIn, lenIn}
+use Rattle.reading.specs.Reading.{readIn}
 use Rattle.slots.specs.View.{put}
 use Rattle.tick.specs.Promise.{Ticks}
 use Rattle.tick.specs.Tick.{tickIn}

@@ -1,6 +1,6 @@
--- What is known of a packet that was found or refused, and what each call that looks one up answers.
+-- What is known of a packet that was found or refused.
 pub mod Numbers
 pub mod Judging
 pub mod Within
 pub mod Packets
-pub mod Asks
+pub mod Finding

@@ -3,10 +3,8 @@ use Prim.Native.Nat.{ℕ}
 use Rattle.address.specs.Address.{addressOf, poolOf, slotOf}
 use Rattle.layout.specs.Judge.{judged}
 use Rattle.rules.specs.Papers.{Outcome, done, no, refused}
-use Rattle.rules.specs.Tests.{unless}
-use Rattle.slots.specs.Pools.{Found, Pool, find, held, noPool, noSlot, over, vacant}
+use Rattle.slots.specs.Pools.{Found, Pool, find, held, noPool, noSlot, vacant}
 use Rattle.slots.specs.View.{view}
-use lib.Dec.{leb}
 use lib.ListN.{length, take}
 use mathlib.Core.List.{List, [], _∷_}
 use Rattle.layout.specs.declared.Setup.{Setup}
@@ -25,19 +23,6 @@ ifHeld a x f = ifNamed a x (refused (no 18 (addressOf (poolOf a) (slotOf a) ∷ 
 -- the packet that an address names: its length and its bytes. It is what `modify` answers and lends
 unfoldable pub packetIn : List Pool → ℕ → Outcome (List ℕ)
 packetIn ps a = ifHeld a (find ps a) (λ n b. done (n ∷ []) (take n b))
-
--- read: 19 where the buffer is below the length; else the packet goes to its front
-unfoldable pub readIn : List Pool → ℕ → List ℕ → Outcome (List ℕ)
-readIn ps a buf =
-    ifHeld a (find ps a)
-    (λ n b. unless (leb n (length buf)) (refused (no 19 (length buf ∷ n ∷ []))) (done (n ∷ []) (over (take n b) buf)))
-
--- presence and length: a free slot has no element, and length 0
-unfoldable pub hasIn : List Pool → ℕ → Outcome (Unit {0})
-hasIn ps a = ifNamed a (find ps a) (done (0 ∷ []) tt) (λ n b. done (1 ∷ []) tt)
-
-unfoldable pub lenIn : List Pool → ℕ → Outcome (Unit {0})
-lenIn ps a = ifNamed a (find ps a) (done (0 ∷ []) tt) (λ n b. done (n ∷ []) tt)
 
 -- every public call judges first: 1, 2, 3
 unfoldable pub judging : {A : Type 0} → Setup → List ℕ → List ℕ → (List Pool → Outcome A) → Outcome A

@@ -3,7 +3,7 @@ use Prim.Native.Nat.{_*_, _+_, _≤_, ℕ}
 use Rattle.address.specs.Address.{poolOf, slotOf}
 use Rattle.layout.specs.Layout.{bytesBefore, sizeAt}
 use Rattle.layout.specs.Limits.{maxSlotSize}
-use Rattle.lookup.specs.Calls.{judging, packetIn}
+use Rattle.lookup.specs.Calls.{packetIn}
 use Rattle.lookup.specs.Refusals.{paper}
 use Rattle.rules.specs.Papers.{Outcome, Paper, after, done, refused, says}
 use Rattle.slots.specs.View.{part, view}
@@ -11,7 +11,6 @@ use lib.ListN.{length}
 use mathlib.Core.List.{List, [], _∷_}
 use mathlib.Core.Path.{_≡_}
 use Rattle.layout.specs.declared.Setup.{Setup}
-use Rattle.lookup.specs.declared.Span.{Span}
 use Rattle.lookup.specs.declared.Whereabouts.{Whereabouts}
 use Rattle.lookup.specs.declared.Whereabouts.the-variants as W
 
@@ -36,16 +35,3 @@ SpanIn su st a (W.Refused e) = Unit {0}
 pub record Finds (su : Setup) (st le : List ℕ) (a : ℕ) (r : Whereabouts) : Type 0 where
   pub same : foundAs st r ≡ packetIn (view su st le) a
   pub inside : SpanIn su st a r
-
--- What `modify_part` lends: the packet's bytes, and where they start; nothing, at the store's start, where `modify` refuses.
-abbrev pub lentBytes : Setup → List ℕ → List ℕ → ℕ → List ℕ
-lentBytes su st le a = after (judging su st le (λ ps. packetIn ps a)) [] (λ b. b)
-
-abbrev pub lentFrom : Setup → List ℕ → List ℕ → ℕ → ℕ
-lentFrom su st le a = after (judging su st le (λ ps. packetIn ps a)) 0 (λ b. packetStart su a)
-
--- What is promised of the place before it is lent.
-pub record Lends (su : Setup) (st le : List ℕ) (a : ℕ) (s : Span) : Type 0 where
-  pub bytes : part (s .from) (s .len) st ≡ lentBytes su st le a
-  pub start : s .from ≡ lentFrom su st le a
-  pub inside : s .from + s .len ≤ length st

@@ -1,3 +1,2 @@
--- What a reading says of the bytes, and the header bits as one number.
-pub mod Bits
+-- What a reading says of the bytes.
 pub mod Readable

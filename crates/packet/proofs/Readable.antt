@@ -1,11 +1,10 @@
 -- What a reading says of the bytes: a packet is readable exactly if all five tests pass, whatever their order.
-use Prim.Native.Nat.{_+_, _-_, _≤_, ℕ}
-use Rattle.packet.specs.Packet.{HandsBack, checkBytes, dataAt, dataFrom, dataOf, headerBits, headerOf, longEnough, readOf, shortest, totalInBounds, totalOf, versionNibble}
-use Rattle.rules.proofs.All.{all-each}
+use Prim.Native.Nat.{_+_, _-_, ℕ}
+use Rattle.packet.specs.Packet.{HandsBack, dataAt, dataOf, headerOf, readOf}
+use Rattle.packet_tests.specs.Tests.{checkBytes, dataFrom, headerBits, longEnough, shortest, totalInBounds, versionNibble}
 use Rattle.rules.proofs.Order.{passed}
 use Rattle.rules.specs.Tests.{unless}
-use borrow.Author.Tests.{leb-true}
-use lib.ListN.{drop, length, take}
+use lib.ListN.{drop, take}
 use mathlib.Core.Bool.{true}
 use mathlib.Core.List.{List, []}
 use mathlib.Core.Path.{_∙_, _≡_, ap, sym}
@@ -55,8 +54,3 @@ pub data-none : (w : ℕ) (s : List ℕ) (f : Fault) (from place : ℕ × ℕ) �
     → place .1 ≡ from .1 → HandsBack w s from [] place
 unfolding dataOf dataAt
 data-none w s f from place q b o = record { bytes = rw q; block = b; offset = rw q (o ∙ sym (zero-add (from .1))) }
-
--- the total's bounds, as facts
-pub total-fits : (w : ℕ) (s : List ℕ) → totalInBounds w s ≡ true → (shortest w ≤ totalOf s) × (totalOf s ≤ length s)
-unfolding totalInBounds
-total-fits w s e = let h = all-each _ e in (leb-true _ _ (h .0), leb-true _ _ (h .1 .0))

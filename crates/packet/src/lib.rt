@@ -3,7 +3,7 @@ ghost use mathlib.Core.Path.{_≡_};
 ghost use Rattle.packet.specs.Packet.{HandsBack, idOf, idWord, readOf};
 ghost use Rattle.packet.specs.declared.Reading.the-variants.{Packet};
 
-mod tests;
+mod fields;
 
 // The header's fields, and the whole packet's length.
 pub struct Header {
@@ -73,23 +73,23 @@ pub fn read(bytes: &[u8]) -> Reading
     if bytes.len() < 13 {
         return Reading::Unreadable(Fault::Length);
     }
-    let total_ok = tests::total_in_bounds(bytes);
+    let total_ok = packet_tests::total_in_bounds(bytes);
     if !total_ok {
         return Reading::Unreadable(Fault::Total);
     }
-    let bits_ok = tests::header_bits(bytes);
+    let bits_ok = packet_tests::header_bits(bytes);
     if !bits_ok {
         return Reading::Unreadable(Fault::HeaderBits);
     }
-    let nibble_ok = tests::version_nibble(bytes);
+    let nibble_ok = packet_tests::version_nibble(bytes);
     if !nibble_ok {
         return Reading::Unreadable(Fault::VersionNibble);
     }
-    let check_ok = tests::check_bytes(bytes);
+    let check_ok = packet_tests::check_bytes(bytes);
     if !check_ok {
         return Reading::Unreadable(Fault::CheckBytes);
     }
-    Reading::Packet(tests::header(bytes))
+    Reading::Packet(fields::header(bytes))
 }
 
 // The user data as a part of the packet, uncopied: empty where the packet is unreadable, which `read` says.

@@ -7,7 +7,9 @@ use Rattle.room.specs.Room.{struck}
 use Rattle.rules.specs.Papers.{done, through}
 use Rattle.store.proofs.Chosen.{Open, choose-open}
 use Rattle.store.specs.Calls.{addIn, deleteIn, place}
-use Rattle.lookup.specs.Calls.{hasIn, ifHeld, ifNamed, lenIn, packetIn, readIn}
+use Rattle.lookup.specs.Calls.{ifHeld, ifNamed, packetIn}
+use Rattle.presence.specs.Presence.{hasIn, lenIn}
+use Rattle.reading.specs.Reading.{readIn}
 use Rattle.slots.specs.Pools.{Choice, Found, Pool, allTaken, find, held, noPool, noSlot, tooLarge, vacant}
 use Rattle.store.specs.Edits.{edit, fill, wipe}
 use Rattle.slots.specs.Pools as P

@@ -24,7 +24,9 @@ use Rattle.stamp.specs.Stamp.{stampOf}
 use Rattle.stamp.specs.declared.Stamp.the-variants.{At, Refused}
 use Rattle.stamp.specs.declared.Stamp.{Stamp}
 use Rattle.store.specs.Calls.{addIn, deleteIn, place}
-use Rattle.lookup.specs.Calls.{hasIn, ifHeld, ifNamed, lenIn, packetIn, readIn}
+use Rattle.lookup.specs.Calls.{ifHeld, ifNamed, packetIn}
+use Rattle.presence.specs.Presence.{hasIn, lenIn}
+use Rattle.reading.specs.Reading.{readIn}
 use Rattle.slots.specs.Pools.{Choice, Found, Pool, allTaken, choose, find, held, into as inSlot, noPool, noSlot, tooLarge, vacant}
 use Rattle.selection.specs.declared.MomentWindow.{MomentWindow}
 use Rattle.tick.specs.Tick.{handedOut, tickIn}

@@ -1,7 +1,8 @@
 -- A stamp that is read from bytes has a time in range.
 use Rattle.rules.proofs.Cases.{either}
 use Prim.Native.Nat.{_*_, _+_, _-_, _<_, _^_, _≤_, suc, zero, ℕ}
-use Rattle.packet.specs.Packet.{dataFrom, dataOf, shortest}
+use Rattle.packet.specs.Packet.{dataOf}
+use Rattle.packet_tests.specs.Tests.{dataFrom, shortest}
 use Rattle.packet.specs.declared.Reading.the-variants.{Packet, Unreadable}
 use Rattle.packet.specs.declared.Reading.{Reading}
 use Rattle.rules.specs.Tests.{unless}

@@ -16,7 +16,9 @@ use Rattle.counting.specs.Counting.{countIn}
 use Rattle.schedule.specs.State.{State, recordOf, withPools}
 use Rattle.schedule.specs.declared.Setup.{Setup}
 use Rattle.store.specs.Calls.{addIn, deleteIn}
-use Rattle.lookup.specs.Calls.{hasIn, lenIn, packetIn, readIn}
+use Rattle.lookup.specs.Calls.{packetIn}
+use Rattle.presence.specs.Presence.{hasIn, lenIn}
+use Rattle.reading.specs.Reading.{readIn}
 use Rattle.slots.specs.Pools.{Pool}
 use Rattle.store.specs.Edits.{edit, rewrite}
 use Rattle.tick.specs.Tick.{Logged, tickIn}

@@ -10,9 +10,10 @@ use Rattle.lookup.specs.Calls.{judging}
 use Rattle.layout.specs.Judge.{Sized, Sound}
 use Rattle.slots.specs.Pools.{Pool}
 use Rattle.store.specs.Promise.{Does, Writes}
-use Rattle.lookup.specs.Promise.{Lends, Reads}
+use Rattle.lookup.specs.Promise.{Reads}
 use Rattle.store.specs.Refusals.{addedPaper, deletedPaper, startedPaper, verdictPaper}
 use Rattle.lookup.specs.Refusals.{lengthPaper, presencePaper}
+use Rattle.reading.specs.Reading.{Lends}
 use Rattle.slots.specs.View.{Leaves}
 use Rattle.store_laws.proofs.OneToOne.{one-added, one-deleted, one-length, one-presence, one-started, one-verdict}
 use lib.ListN.{length}

@@ -4,7 +4,8 @@ use Rattle.rules.specs.Papers.{done, no, refused}
 use Rattle.rules.specs.Tests.{unless}
 use Rattle.address.specs.Address.{poolOf, slotOf}
 use Rattle.store.specs.Calls.{addIn, deleteIn}
-use Rattle.lookup.specs.Calls.{ifHeld, ifNamed, packetIn, readIn}
+use Rattle.lookup.specs.Calls.{ifHeld, ifNamed, packetIn}
+use Rattle.reading.specs.Reading.{readIn}
 use Rattle.layout.specs.Judge.{Sound}
 use Rattle.slots.specs.Pools.{Pool, over}
 use Rattle.store.specs.Edits.{edit, wipe}

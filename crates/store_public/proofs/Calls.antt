@@ -1,11 +1,12 @@
 -- The calls: what each comes to where `judge` is fine, and where it refuses.
 use Prim.Native.Nat.{ℕ}
 use Rattle.layout.specs.Judge.{Sound, buffersOk, setupOk, sized}
-use Rattle.lookup.proofs.Asks.{lends-none}
 use Rattle.lookup.proofs.Judging.{judging-fine}
 use Rattle.lookup.specs.Calls.{judging, packetIn}
-use Rattle.lookup.specs.Promise.{Lends, Reads}
+use Rattle.lookup.specs.Promise.{Reads}
 use Rattle.lookup.specs.Refusals.{paper}
+use Rattle.reading.proofs.Lending.{lends-none}
+use Rattle.reading.specs.Reading.{Lends}
 use Rattle.rules.specs.Papers.{Outcome, Paper, after, says}
 use Rattle.rules.specs.Tests.{unless}
 use Rattle.slots.specs.Pools.{Pool}

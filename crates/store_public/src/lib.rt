@@ -6,9 +6,11 @@ ghost use Rattle.rules.specs.Papers.{says, done};
 ghost use Rattle.layout.specs.Judge.{judged as fineOr};
 ghost use Rattle.lookup.specs.Refusals.{lengthPaper, presencePaper};
 ghost use Rattle.store.specs.Refusals.{deletedPaper, addedPaper, startedPaper, verdictPaper};
-ghost use Rattle.lookup.specs.Calls.{readIn, packetIn, hasIn, lenIn, judging};
+ghost use Rattle.lookup.specs.Calls.{packetIn, judging};
 ghost use Rattle.store.specs.Calls.{deleteIn, addIn, freshIn};
-ghost use Rattle.lookup.specs.Promise.{Reads, Lends, lentBytes, lentFrom};
+ghost use Rattle.lookup.specs.Promise.{Reads};
+ghost use Rattle.presence.specs.Presence.{hasIn, lenIn};
+ghost use Rattle.reading.specs.Reading.{Lends, lentBytes, lentFrom, readIn};
 ghost use Rattle.store.specs.Promise.{Writes};
 use layout::Setup;
 use lookup::Length;
@@ -61,7 +63,7 @@ pub fn read(setup: Setup, store: &[u8], lens: &[u16], addr: u64, buf: &mut [u8])
     let j = judge(setup, store.len(), lens);
     match j {
         Verdict::Refused(e) => Length::Refused(e),
-        Verdict::Fine => lookup::read(setup, store, lens, addr, buf),
+        Verdict::Fine => reading::read(setup, store, lens, addr, buf),
     }
 }
 
@@ -72,7 +74,7 @@ pub fn modify(setup: Setup, store: &[u8], lens: &[u16], addr: u64) -> Length
     let j = judge(setup, store.len(), lens);
     match j {
         Verdict::Refused(e) => Length::Refused(e),
-        Verdict::Fine => lookup::modify(setup, store, lens, addr),
+        Verdict::Fine => reading::modify(setup, store, lens, addr),
     }
 }
 
@@ -83,7 +85,7 @@ fn lent(setup: Setup, store: &[u8], lens: &[u16], addr: u64) -> Span
     let j = judge(setup, store.len(), lens);
     match j {
         Verdict::Refused(_) => Span { from: 0, len: 0 },
-        Verdict::Fine => lookup::lent(setup, store, lens, addr),
+        Verdict::Fine => reading::lent(setup, store, lens, addr),
     }
 }
 
@@ -122,7 +124,7 @@ pub fn has_element_at(setup: Setup, store: &[u8], lens: &[u16], addr: u64) -> Pr
     let j = judge(setup, store.len(), lens);
     match j {
         Verdict::Refused(e) => Presence::Refused(e),
-        Verdict::Fine => lookup::has_element_at(setup, store, lens, addr),
+        Verdict::Fine => presence::has_element_at(setup, store, lens, addr),
     }
 }
 
@@ -132,7 +134,7 @@ pub fn len_of_data(setup: Setup, store: &[u8], lens: &[u16], addr: u64) -> Lengt
     let j = judge(setup, store.len(), lens);
     match j {
         Verdict::Refused(e) => Length::Refused(e),
-        Verdict::Fine => lookup::len_of_data(setup, store, lens, addr),
+        Verdict::Fine => presence::len_of_data(setup, store, lens, addr),
     }
 }
 

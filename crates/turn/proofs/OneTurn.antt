@@ -1,8 +1,8 @@
 -- One turn: what the address finds, by the store's promise, and the store after it.
 use Prim.Native.Nat.{_+_, _-_, _≤_, ℕ}
 use Rattle.log.specs.Log.{recordBytes}
+use Rattle.lookup.proofs.Finding.{found-held-at}
 use Rattle.rules.specs.Papers.{Paper, done, refused, says}
-use Rattle.lookup.proofs.Asks.{found-held-at}
 use Rattle.laid.proofs.Laid.{leaves-as, leaves-same}
 use Rattle.slots.proofs.Lists.{part-length, taken-out}
 use Rattle.store.specs.Calls.{deleteIn}

@@ -1,6 +1,6 @@
 -- `lookup::find` meets its contract.
 use Rattle.layout.proofs.Bounds.{bounds}
-use Rattle.lookup.proofs.Asks.{finds-at, finds-refused}
+use Rattle.lookup.proofs.Finding.{finds-at, finds-refused}
 use Rattle.lookup.proofs.Packets.{PacketAt, packet-found}
 use native.Mathlib.Omega.{arith}
 use borrow.Author.Needs.{needs}

@@ -1,6 +1,7 @@
 -- `packet::read` meets its contract: each test that was passed is one more line of `readOf`.
 use Rattle.packet.proofs.Readable.{readable-is}
-use Rattle.packet.specs.Packet.{checkBytes, headerBits, longEnough, readOf, totalInBounds, versionNibble}
+use Rattle.packet.specs.Packet.{readOf}
+use Rattle.packet_tests.specs.Tests.{checkBytes, headerBits, longEnough, totalInBounds, versionNibble}
 use Rattle.rules.specs.Tests.{unless}
 use borrow.Author.Tests.{le-leb, lt-leb, not-false, not-true}
 use mathlib.Core.Bool.{true}

@@ -1,6 +1,6 @@
 -- `store_public::has_element_at` meets its contract.
-use Rattle.lookup.specs.Calls.{hasIn}
 use Rattle.lookup.specs.Refusals.{presencePaper}
+use Rattle.presence.specs.Presence.{hasIn}
 use Rattle.store_public.proofs.Calls.{asks-fine, asks-refused}
 use Rattle.store_public.proofs.Judging.{sound-by}
 use borrow.Author.Needs.{needs}

@@ -1,6 +1,6 @@
 -- `store_public::len_of_data` meets its contract.
-use Rattle.lookup.specs.Calls.{lenIn}
 use Rattle.lookup.specs.Refusals.{lengthPaper}
+use Rattle.presence.specs.Presence.{lenIn}
 use Rattle.store_public.proofs.Calls.{asks-fine, asks-refused}
 use Rattle.store_public.proofs.Judging.{sound-by}
 use borrow.Author.Needs.{needs}

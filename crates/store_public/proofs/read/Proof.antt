@@ -1,6 +1,6 @@
 -- `store_public::read` meets its contract.
-use Rattle.lookup.specs.Calls.{readIn}
 use Rattle.lookup.specs.Refusals.{lengthPaper}
+use Rattle.reading.specs.Reading.{readIn}
 use Rattle.store_public.proofs.Calls.{reads-fine, reads-refused}
 use Rattle.store_public.proofs.Judging.{sound-by}
 use borrow.Author.Needs.{needs}

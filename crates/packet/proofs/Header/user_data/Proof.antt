@@ -1,6 +1,7 @@
 -- `packet::Header::user_data` meets its contract: the bytes that the header was read from hold its total.
 use Prim.Native.Nat.{_≤_}
-use Rattle.packet.proofs.Readable.{data-is, packet-is, total-fits}
+use Rattle.packet.proofs.Readable.{data-is, packet-is}
+use Rattle.packet_tests.proofs.Bounds.{total-fits}
 use lib.ListN.{length}
 use mathlib.Core.Path.{ap, refl}
 use native.Mathlib.Omega.{arith}

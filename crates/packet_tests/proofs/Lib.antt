@@ -1,0 +1,3 @@
+-- The header bits as one number, and the total within its bounds.
+pub mod Bits
+pub mod Bounds

@@ -1,0 +1,2 @@
+-- The tests of a telecommand packet.
+pub mod Tests

@@ -1,0 +1,2 @@
+-- What the calls that tell of a packet answer.
+pub mod Asks

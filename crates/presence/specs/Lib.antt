@@ -1,0 +1,2 @@
+-- Whether a packet is there, and how long it is.
+pub mod Presence

@@ -1,0 +1,2 @@
+-- A packet's bytes, handed out.
+pub mod Reading
