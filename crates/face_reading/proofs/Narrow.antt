@@ -1,6 +1,7 @@
 -- Words of a good setup fit the fields that hold them; and the setup that was read.
 use Rattle.rules.proofs.Each.{each-at}
-use Prim.Native.Nat.{_%_, _*_, _+_, _/_, _<_, _≤_, ℕ}
+use Rattle.rules.specs.Lists.{each}
+use Prim.Native.Nat.{_%_, _*_, _+_, _-_, _/_, _<_, _≤_, ℕ}
 use Rattle.face_reading.specs.Inside.{ReadsStore, fine, narrow}
 use Rattle.face_reading.specs.Reading.{column, storeSetup, switched, wellCounted, word}
 use Rattle.layout.proofs.Bounds.{setup-pool}
@@ -13,7 +14,7 @@ use borrow.Author.Tests.{eq-eqb, eqb-false, eqb-true, le-ltb, leb-false, leb-tru
 use lib.Dec.{eqb, leb, ltb}
 use lib.ListN.{List·getD-eq-default, getD, length}
 use mathlib.Core.Bool.{Bool, false, true}
-use mathlib.Core.List.{List}
+use mathlib.Core.List.{List, [], _∷_}
 use mathlib.Core.Path.{_∙_, _≡_, ap, refl}
 use native.Mathlib.Omega.{arith}
 use Rattle.layout.specs.declared.Setup.{Setup}
@@ -21,6 +22,15 @@ use Rattle.layout.specs.declared.Setup.{Setup}
 column-at : (from : ℕ) (ws : List ℕ) (k : ℕ) → k < maxSubpools → getD (column from ws) k 0 ≡ word ws (from + 2 * k)
 unfolding column
 column-at from ws k l = each-at (λ j. word ws (from + 2 * j)) 0 maxSubpools 0 k l ∙ ap (λ j. word ws (from + 2 * j)) (omega arith)
+
+-- a column, word by word
+pub column-of : (i : ℕ) (ws : List ℕ) (a b c d e f g h : ℕ) → a ≡ word ws i → b ≡ word ws (i + 2) → c ≡ word ws (i + 4) → d ≡ word ws (i + 6)
+    → e ≡ word ws (i + 8) → f ≡ word ws (i + 10) → g ≡ word ws (i + 12) → h ≡ word ws (i + 14)
+    → a ∷ b ∷ c ∷ d ∷ e ∷ f ∷ g ∷ h ∷ [] ≡ column i ws
+unfolding column each
+column-of i ws a b c d e f g h p q r s t u v w =
+    let z : i ≡ i + 0 = omega arith in
+    rw (p ∙ ap (word ws) z, q, r, s, t, u, v, w) refl
 
 module _ (ws : List ℕ) (ok : fine ws ≡ true) where
   pub fine-counted : length ws ≡ 3 + 2 * word ws 0
@@ -67,9 +77,12 @@ module _ (ws : List ℕ) (ok : fine ws ≡ true) where
       go i false e = by i (leb-false _ _ e) (eqb (i % 2) 0) refl
 
 -- what narrow words are, one by one
-pub narrow-at : (ws : List ℕ) → narrow ws ≡ true → (i : ℕ) → i < 16 → word ws (3 + i) < 65536
+narrow-at : (ws : List ℕ) → narrow ws ≡ true → (i : ℕ) → i < 16 → word ws (3 + i) < 65536
 unfolding narrow
 narrow-at ws q i l = ltb-true _ _ (all-at (λ j. ltb (word ws (3 + j)) 65536) (2 * maxSubpools) q i l)
+
+pub narrow-from : (ws : List ℕ) → narrow ws ≡ true → (i : ℕ) → 3 ≤ i → i < 19 → word ws i < 65536
+narrow-from ws q i a l = let e : 3 + (i - 3) ≡ i = omega arith in rw e at (narrow-at ws q (i - 3) (omega arith))
 
 -- what was read
 pub reads-bad : (ws : List ℕ) (su : Setup) → (fine ws ≡ true → ⊥) → setupOk su ≡ false → ReadsStore ws su

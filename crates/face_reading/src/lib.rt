@@ -6,10 +6,10 @@ use time::UnixTime;
 use windows::TimeWindow;
 ghost use mathlib.Core.Path.{_≡_};
 ghost use mathlib.Core.Bool.{false, true};
-ghost use Prim.Native.Nat.{_<_};
+ghost use Prim.Native.Nat.{_<_, _≤_};
 ghost use Rattle.layout.specs.Judge.{setupOk as storeSetupOk};
 ghost use Rattle.face_reading.specs.Inside.{ReadsSetup, ReadsStore, Stands, clipped, narrow};
-ghost use Rattle.face_reading.specs.Reading.{column, recordFrom, signed as signedWord, switched, windowFrom, word as wordAt};
+ghost use Rattle.face_reading.specs.Reading.{column as columnFrom, recordFrom, signed as signedWord, switched, windowFrom, word as wordAt};
 
 // The least number that no field of the store's setup holds.
 const TOO_WIDE: u64 = 65536;
@@ -53,36 +53,21 @@ fn narrow_word(words: &[u64], i: usize) -> u16
     narrowed(word(words, i))
 }
 
-// For each subpool its slots, and its slot size.
-fn slots(words: &[u64]) -> [u16; 8]
+// Every second word from a place on, one for each subpool: from word 3 on its slots, from word 4 on its slot size.
+fn column(words: &[u64], first: usize) -> [u16; 8]
     requires { ⌜ narrow (now words) ≡ true ⌝ }
-    ensures { λ r. ⌜ r ≡ column 3 (now (words .entry)) ⌝ }
+    requires { ⌜ (3 ≤ first) × (first ≤ 4) ⌝ }
+    ensures { λ r. ⌜ r ≡ columnFrom first (now (words .entry)) ⌝ }
 {
     [
-        narrow_word(words, 3),
-        narrow_word(words, 5),
-        narrow_word(words, 7),
-        narrow_word(words, 9),
-        narrow_word(words, 11),
-        narrow_word(words, 13),
-        narrow_word(words, 15),
-        narrow_word(words, 17),
-    ]
-}
-
-fn sizes(words: &[u64]) -> [u16; 8]
-    requires { ⌜ narrow (now words) ≡ true ⌝ }
-    ensures { λ r. ⌜ r ≡ column 4 (now (words .entry)) ⌝ }
-{
-    [
-        narrow_word(words, 4),
-        narrow_word(words, 6),
-        narrow_word(words, 8),
-        narrow_word(words, 10),
-        narrow_word(words, 12),
-        narrow_word(words, 14),
-        narrow_word(words, 16),
-        narrow_word(words, 18),
+        narrow_word(words, first),
+        narrow_word(words, first + 2),
+        narrow_word(words, first + 4),
+        narrow_word(words, first + 6),
+        narrow_word(words, first + 8),
+        narrow_word(words, first + 10),
+        narrow_word(words, first + 12),
+        narrow_word(words, first + 14),
     ]
 }
 
@@ -121,8 +106,8 @@ pub fn store_setup(words: &[u64]) -> layout::Setup
     if !fits {
         return bad_setup();
     }
-    let slots = slots(words);
-    let sizes = sizes(words);
+    let slots = column(words, 3);
+    let sizes = column(words, 4);
     let spill = is_on(word(words, 1));
     layout::Setup {
         pools: n,

@@ -19,15 +19,15 @@ returns-3 : tie.Need-returns-3
 returns-3 c = reads-bad _ _ (λ f. false≢true (sym (not-true _ (c .before .if3 .taken)) ∙ c .before .before .is-narrow .ensures ∙ fine-narrow _ f))
     (c .bad-setup3 .ensures)
 
-slots-requires : tie.Need-slots-requires
-slots-requires c κs = sym (c .before .is-narrow .ensures) ∙ not-false _ (c .if3 .left)
+column-requires : tie.Need-column-requires
+column-requires c κs = (sym (c .before .is-narrow .ensures) ∙ not-false _ (c .if3 .left), (omega arith, omega arith))
 
-sizes-requires : tie.Need-sizes-requires
-sizes-requires c κs = sym (c .before .before .is-narrow .ensures) ∙ not-false _ (c .before .if3 .left)
+column-requires-2 : tie.Need-column-requires-2
+column-requires-2 c κs = (sym (c .before .before .is-narrow .ensures) ∙ not-false _ (c .before .if3 .left), (omega arith, omega arith))
 
 returns-4 : tie.Need-returns-4
 returns-4 c = reads-all _ _ _ _ _ (c .before .before .before .before .before .before .before .before .word .ensures) (search needs)
-    (c .before .before .sizes .ensures) (c .before .before .before .slots .ensures) (c .is-on .ensures ∙ ap switched (c .before .word2 .ensures))
+    (c .before .before .column2 .ensures) (c .before .before .before .column .ensures) (c .is-on .ensures ∙ ap switched (c .before .word2 .ensures))
 
 pub store-setup-spec : {M : Type 1} → statement M
 store-setup-spec =
@@ -43,8 +43,8 @@ store-setup-spec =
     (λ c κs. search needs)
     (λ c κs. search needs)
     returns-3
-    slots-requires
-    sizes-requires
+    column-requires
+    column-requires-2
     (λ c κs. search needs)
     (λ c κs. search needs)
     returns-4)
