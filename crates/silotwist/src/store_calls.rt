@@ -7,10 +7,10 @@ use store::Verdict;
 ghost use mathlib.Core.Path.{_≡_};
 ghost use Rattle.store.specs.Calls.{addIn, deleteIn};
 ghost use Rattle.lookup.specs.Calls.{hasIn, judging, lenIn, packetIn, readIn};
-ghost use Rattle.silotwist.specs.Face.{Answers};
+ghost use Rattle.face.specs.Face.{Answers};
 ghost use Rattle.rules.specs.Papers.{says};
 ghost use Rattle.face_words.specs.Inside.{wordsOf};
-ghost use Rattle.silotwist.specs.StoreFace.{BufferFaces, StoreFaces, partIn, storeCall};
+ghost use Rattle.face.specs.StoreFace.{BufferFaces, StoreFaces, partIn, storeCall};
 
 #[no_mangle]
 pub extern "C" fn silotwist_store_add(
