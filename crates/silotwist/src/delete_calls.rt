@@ -3,7 +3,7 @@ use face_words::telling;
 ghost use Rattle.deletions.specs.Deleting.{deleteWindowIn};
 ghost use Rattle.by_id.specs.ById.{deleteByIdIn, deleteKeepingIn};
 ghost use Rattle.face_reading.specs.Reading.{windowFrom, word};
-ghost use Rattle.silotwist.specs.ScheduleFace.{ScheduleFaces, countWritten, judgedCall};
+ghost use Rattle.face.specs.ScheduleFace.{ScheduleFaces, countWritten, judgedCall};
 
 #[no_mangle]
 pub extern "C" fn silotwist_delete_window(

@@ -4,7 +4,7 @@ ghost use Rattle.face_reading.specs.Reading.{word};
 ghost use Rattle.insertions.specs.Inserting.{insertUnwrappedIn};
 ghost use Rattle.gate.specs.Entering.{insertStoredIn};
 ghost use Rattle.wrapped.specs.Wrapped.{insertWrappedIn};
-ghost use Rattle.silotwist.specs.ScheduleFace.{ScheduleFaces, countWritten, judgedCall};
+ghost use Rattle.face.specs.ScheduleFace.{ScheduleFaces, countWritten, judgedCall};
 
 #[no_mangle]
 pub extern "C" fn silotwist_insert_wrapped(

@@ -4,7 +4,7 @@ use time::UnixTime;
 ghost use mathlib.Core.Path.{_≡_};
 ghost use mathlib.Core.Bool.{false, true};
 ghost use Rattle.record.specs.Record.{clockIn, markIn};
-ghost use Rattle.silotwist.specs.RecordFace.{RecordFaces, clockWritten, markWritten, recordCall};
+ghost use Rattle.face.specs.RecordFace.{RecordFaces, clockWritten, markWritten, recordCall};
 
 #[no_mangle]
 pub extern "C" fn silotwist_set_clock(

@@ -7,8 +7,8 @@ ghost use Rattle.windows.specs.Windowing.{retrieveIn};
 ghost use Rattle.face_reading.specs.Reading.{windowFrom, word};
 ghost use Rattle.counting.specs.Counting.{countIn};
 ghost use Rattle.starting.specs.Starting.{startIn};
-ghost use Rattle.silotwist.specs.Face.{Answers};
-ghost use Rattle.silotwist.specs.ScheduleFace.{ScheduleFaces, allWritten, judgedCall, resetWritten, scheduleCall};
+ghost use Rattle.face.specs.Face.{Answers};
+ghost use Rattle.face.specs.ScheduleFace.{ScheduleFaces, allWritten, judgedCall, resetWritten, scheduleCall};
 
 #[no_mangle]
 pub extern "C" fn silotwist_count(

@@ -9,10 +9,10 @@ ghost use Rattle.store.specs.Calls.{addIn, deleteIn};
 ghost use Rattle.lookup.specs.Calls.{judging, packetIn};
 ghost use Rattle.presence.specs.Presence.{hasIn, lenIn};
 ghost use Rattle.reading.specs.Reading.{readIn};
-ghost use Rattle.silotwist.specs.Face.{Answers};
+ghost use Rattle.face.specs.Face.{Answers};
 ghost use Rattle.rules.specs.Papers.{says};
 ghost use Rattle.face_words.specs.Inside.{wordsOf};
-ghost use Rattle.silotwist.specs.StoreFace.{BufferFaces, StoreFaces, partIn, storeCall};
+ghost use Rattle.face.specs.StoreFace.{BufferFaces, StoreFaces, partIn, storeCall};
 
 #[no_mangle]
 pub extern "C" fn silotwist_store_add(

@@ -1,8 +1,7 @@
 // The release tick.
-use face_words::telling;
 ghost use Rattle.face_reading.specs.Reading.{word};
-ghost use Rattle.silotwist.specs.ScheduleFace.{countWritten, judgedCall};
-ghost use Rattle.silotwist.specs.TickFace.{TickFaces};
+ghost use Rattle.face.specs.ScheduleFace.{countWritten, judgedCall};
+ghost use Rattle.face.specs.TickFace.{TickFaces};
 ghost use Rattle.tick.specs.Tick.{tickIn};
 
 #[no_mangle]
@@ -24,17 +23,15 @@ pub extern "C" fn silotwist_tick(
         (now («record» .entry)) (now (store .entry)) (now (lens .entry)) (now (rows .entry)) (now (log .entry)) (now (answer .entry)) n
         (now («record» .exit)) (now (store .exit)) (now (lens .exit)) (now (rows .exit)) (now (log .exit)) (now (answer .exit)) ⌝ }
 {
-    if answer.len() < 8 {
-        return 2;
-    }
-    let su = face_reading::setup(setup);
-    if record.len() < 6 {
-        return schedule_answers::short(answer, su);
-    }
-    let r = face_reading::record(record);
-    let most = limit as usize;
-    let c = tick_public::tick(su, r, store, lens, rows, log, most, delete_packets);
-    let a = c.answer;
-    let w = schedule_answers::ticked(a);
-    telling::with_count(record, c.next.count, answer, w)
+    face_tick::tick(
+        setup,
+        record,
+        store,
+        lens,
+        rows,
+        log,
+        limit,
+        delete_packets,
+        answer,
+    )
 }

@@ -1,5 +1,5 @@
 -- `silotwist::delete_calls::silotwist_delete_by_id` meets its contract.
-use Rattle.silotwist.proofs.ScheduleCalls.{changes, changes-no-room, changes-short}
+use Rattle.face.proofs.ScheduleCalls.{changes, changes-no-room, changes-short}
 use mathlib.Core.Path.{refl}
 use borrow.Author.Needs.{needs}
 use Rattle.silotwist.proofs.delete_calls.silotwist_delete_by_id.Statement.{statement}

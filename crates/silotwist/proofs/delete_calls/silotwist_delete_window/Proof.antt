@@ -1,7 +1,7 @@
 -- `silotwist::delete_calls::silotwist_delete_window` meets its contract.
 use Rattle.deletions.specs.Deleting.{deleteWindowIn}
 use Rattle.face_reading.specs.Reading.{windowFrom}
-use Rattle.silotwist.proofs.ScheduleCalls.{changes-at, changes-no-room, changes-short}
+use Rattle.face.proofs.ScheduleCalls.{changes-at, changes-no-room, changes-short}
 use Rattle.face_reading.proofs.Seconds.{held-time}
 use mathlib.Core.Path.{_∙_, ap₂, refl}
 use borrow.Author.Needs.{needs}

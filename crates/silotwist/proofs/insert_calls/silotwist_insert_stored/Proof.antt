@@ -1,6 +1,6 @@
 -- `silotwist::insert_calls::silotwist_insert_stored` meets its contract.
 use Rattle.gate.specs.Entering.{insertStoredIn}
-use Rattle.silotwist.proofs.ScheduleCalls.{changes-at, changes-no-room, changes-short}
+use Rattle.face.proofs.ScheduleCalls.{changes-at, changes-no-room, changes-short}
 use Rattle.face_reading.proofs.Seconds.{held-time}
 use mathlib.Core.Path.{refl}
 use borrow.Author.Needs.{needs}

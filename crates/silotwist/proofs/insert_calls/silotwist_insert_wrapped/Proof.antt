@@ -1,5 +1,5 @@
 -- `silotwist::insert_calls::silotwist_insert_wrapped` meets its contract.
-use Rattle.silotwist.proofs.ScheduleCalls.{changes, changes-no-room, changes-short}
+use Rattle.face.proofs.ScheduleCalls.{changes, changes-no-room, changes-short}
 use mathlib.Core.Path.{refl}
 use borrow.Author.Needs.{needs}
 use Rattle.silotwist.proofs.insert_calls.silotwist_insert_wrapped.Statement.{statement}

@@ -1,5 +1,5 @@
 -- `silotwist::record_calls::mark` meets its contract.
-use Rattle.silotwist.proofs.RecordCalls.{mark-face, record-no-room, record-short}
+use Rattle.face.proofs.RecordCalls.{mark-face, record-no-room, record-short}
 use borrow.Author.Needs.{needs}
 use Rattle.silotwist.proofs.record_calls.mark.Statement.{statement}
 use Rattle.silotwist.proofs.record_calls.mark.Tie as tie

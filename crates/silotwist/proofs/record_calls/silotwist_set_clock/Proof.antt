@@ -1,5 +1,5 @@
 -- `silotwist::record_calls::silotwist_set_clock` meets its contract.
-use Rattle.silotwist.proofs.RecordCalls.{clock-face, record-no-room, record-short}
+use Rattle.face.proofs.RecordCalls.{clock-face, record-no-room, record-short}
 use mathlib.Core.Path.{ap}
 use mir.Facts.{toZ-ofZ}
 use mir.Syntax.{w64}

@@ -1,5 +1,5 @@
 -- `silotwist::schedule_calls::silotwist_count` meets its contract.
-use Rattle.silotwist.proofs.ScheduleCalls.{looks, looks-no-room, looks-short}
+use Rattle.face.proofs.ScheduleCalls.{looks, looks-no-room, looks-short}
 use mathlib.Core.Path.{refl}
 use borrow.Author.Needs.{needs}
 use Rattle.silotwist.proofs.schedule_calls.silotwist_count.Statement.{statement}

@@ -1,6 +1,6 @@
 -- `silotwist::schedule_calls::silotwist_fresh` meets its contract.
-use Rattle.silotwist.proofs.Resetting.{starts-at}
-use Rattle.silotwist.proofs.ScheduleCalls.{faces-no-room, faces-short}
+use Rattle.face.proofs.Resetting.{starts-at}
+use Rattle.face.proofs.ScheduleCalls.{faces-no-room, faces-short}
 use Rattle.face_reading.proofs.Seconds.{held-time}
 use mathlib.Core.Path.{refl}
 use borrow.Author.Needs.{needs}

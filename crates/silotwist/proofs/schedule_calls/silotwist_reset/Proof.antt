@@ -1,6 +1,6 @@
 -- `silotwist::schedule_calls::silotwist_reset` meets its contract.
-use Rattle.silotwist.proofs.Resetting.{resets}
-use Rattle.silotwist.proofs.ScheduleCalls.{changes-no-room, changes-short}
+use Rattle.face.proofs.Resetting.{resets}
+use Rattle.face.proofs.ScheduleCalls.{changes-no-room, changes-short}
 use mathlib.Core.Path.{refl}
 use borrow.Author.Needs.{needs}
 use Rattle.silotwist.proofs.schedule_calls.silotwist_reset.Statement.{statement}

@@ -1,7 +1,7 @@
 -- `silotwist::schedule_calls::silotwist_window` meets its contract.
 use Rattle.windows.specs.Windowing.{retrieveIn}
 use Rattle.face_reading.specs.Reading.{windowFrom}
-use Rattle.silotwist.proofs.ScheduleCalls.{looks-at, looks-no-room, looks-short}
+use Rattle.face.proofs.ScheduleCalls.{looks-at, looks-no-room, looks-short}
 use Rattle.face_reading.proofs.Seconds.{held-time}
 use mathlib.Core.Path.{_∙_, ap₂, refl}
 use borrow.Author.Needs.{needs}

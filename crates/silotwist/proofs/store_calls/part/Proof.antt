@@ -1,7 +1,7 @@
 -- `silotwist::store_calls::part` meets its contract.
 use Rattle.rules.specs.Papers.{says}
-use Rattle.silotwist.proofs.Parting.{part-found, part-refused}
-use Rattle.silotwist.specs.StoreFace.{partIn}
+use Rattle.face.proofs.Parting.{part-found, part-refused}
+use Rattle.face.specs.StoreFace.{partIn}
 use Rattle.store_public.proofs.Judging.{judging-refused, sound-by}
 use borrow.Author.Needs.{needs}
 use Rattle.silotwist.proofs.store_calls.part.Statement.{statement}

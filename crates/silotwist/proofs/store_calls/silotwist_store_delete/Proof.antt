@@ -1,5 +1,5 @@
 -- `silotwist::store_calls::silotwist_store_delete` meets its contract.
-use Rattle.silotwist.proofs.StoreCalls.{stores, stores-no-room}
+use Rattle.face.proofs.StoreCalls.{stores, stores-no-room}
 use borrow.Author.Needs.{needs}
 use Rattle.silotwist.proofs.store_calls.silotwist_store_delete.Statement.{statement}
 use Rattle.silotwist.proofs.store_calls.silotwist_store_delete.Tie as tie

@@ -1,5 +1,5 @@
 -- `silotwist::store_calls::silotwist_store_len` meets its contract.
-use Rattle.silotwist.proofs.StoreCalls.{asks, asks-no-room}
+use Rattle.face.proofs.StoreCalls.{asks, asks-no-room}
 use borrow.Author.Needs.{needs}
 use Rattle.silotwist.proofs.store_calls.silotwist_store_len.Statement.{statement}
 use Rattle.silotwist.proofs.store_calls.silotwist_store_len.Tie as tie

@@ -1,5 +1,5 @@
 -- `silotwist::store_calls::silotwist_store_part` meets its contract.
-use Rattle.silotwist.proofs.StoreCalls.{asks, asks-no-room}
+use Rattle.face.proofs.StoreCalls.{asks, asks-no-room}
 use mathlib.Core.Path.{refl}
 use borrow.Author.Needs.{needs}
 use Rattle.silotwist.proofs.store_calls.silotwist_store_part.Statement.{statement}

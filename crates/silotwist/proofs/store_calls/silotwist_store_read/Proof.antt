@@ -1,5 +1,5 @@
 -- `silotwist::store_calls::silotwist_store_read` meets its contract.
-use Rattle.silotwist.proofs.StoreCalls.{buffers, buffers-no-room}
+use Rattle.face.proofs.StoreCalls.{buffers, buffers-no-room}
 use borrow.Author.Needs.{needs}
 use Rattle.silotwist.proofs.store_calls.silotwist_store_read.Statement.{statement}
 use Rattle.silotwist.proofs.store_calls.silotwist_store_read.Tie as tie

@@ -13,9 +13,9 @@ use Rattle.rows.specs.Entries.{relaid}
 use lib.ListN.{drop, length, set}
 use mathlib.Core.List.{List, [], _∷_}
 use mathlib.Core.Path.{_≡_}
-use Rattle.silotwist.specs.Face.{Answers, answering}
+use Rattle.face.specs.Face.{Answers, answering}
 use Rattle.face_reading.specs.Reading.{recordFrom, recordWords, setupFrom, storeSetup, wellCounted}
-use Rattle.silotwist.specs.RecordFace.{longEnough}
+use Rattle.face.specs.RecordFace.{longEnough}
 
 -- the answer's room; all of 1, the number of setup words first; then all of 2, the record's words first; and then as the call judges
 unfoldable pub scheduleCall : {A : Type 0} → List ℕ → List ℕ → List ℕ → (Setup → Record → Outcome A) → Outcome A

@@ -1,9 +1,9 @@
--- `silotwist::tick_call::silotwist_tick` meets its contract.
-use Rattle.silotwist.proofs.TickCalls.{ticks, ticks-no-room, ticks-short}
+-- `face_tick::tick` meets its contract.
+use Rattle.face.proofs.TickCalls.{ticks, ticks-no-room, ticks-short}
 use mathlib.Core.Path.{refl}
 use borrow.Author.Needs.{needs}
-use Rattle.silotwist.proofs.tick_call.silotwist_tick.Statement.{statement}
-use Rattle.silotwist.proofs.tick_call.silotwist_tick.Tie as tie
+use Rattle.face_tick.proofs.tick.Statement.{statement}
+use Rattle.face_tick.proofs.tick.Tie as tie
 
 returns : tie.Need-returns
 returns c = ticks-no-room _ (c .if1 .taken)
@@ -37,8 +37,8 @@ returns-3 c =
     (p2 .ticked .ensures) (p1 .with-count .ensures .number)
     (p1 .with-count .ensures .words) (p1 .with-count .ensures .written)
 
-pub silotwist-tick-spec : {M : Type 1} → statement M
-silotwist-tick-spec =
+pub tick-spec : {M : Type 1} → statement M
+tick-spec =
     tie.close
     (tie.spec
     returns

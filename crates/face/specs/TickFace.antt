@@ -6,7 +6,7 @@ use Rattle.tick.specs.Promise.{left}
 use Rattle.tick.specs.Tick.{Logged}
 use mathlib.Core.List.{List}
 use mathlib.Core.Path.{_≡_}
-use Rattle.silotwist.specs.ScheduleFace.{ScheduleFaces}
+use Rattle.face.specs.ScheduleFace.{ScheduleFaces}
 
 pub record TickFaces (sw : List ℕ) (k : ℕ) (o : Outcome Logged) (written : State → List ℕ) (rw st le ro lo an : List ℕ) (n : ℕ)
     (rw′ st′ le′ ro′ lo′ an′ : List ℕ) : Type 0 where

@@ -9,7 +9,7 @@ use Rattle.slots.specs.View.{lensWith, storeWith}
 use Rattle.layout.specs.declared.Setup.{Setup}
 use mathlib.Core.List.{List, [], _∷_}
 use mathlib.Core.Path.{_≡_}
-use Rattle.silotwist.specs.Face.{Answers, answering}
+use Rattle.face.specs.Face.{Answers, answering}
 use Rattle.face_reading.specs.Reading.{storeSetup, wellCounted}
 
 -- the answer's room; 1 for the number of setup words; and then the store's own judging, 1, 2, 3, and the call

@@ -12,15 +12,15 @@ use Rattle.schedule.specs.declared.Setup.{Setup}
 use Rattle.layout.specs.Judge.{setupOk as storeSetupOk}
 use Rattle.slots.specs.View.{lensWith, storeWith}
 use Rattle.rows.specs.Entries.{relaid}
-use Rattle.silotwist.proofs.Answering.{answers, answers-no-room, no-room, with-room}
+use Rattle.face.proofs.Answering.{answers, answers-no-room, no-room, with-room}
 use Rattle.face_reading.proofs.Standing.{stands-same}
-use Rattle.silotwist.specs.Face.{Answers}
+use Rattle.face.specs.Face.{Answers}
 use Rattle.face_reading.specs.Inside.{ReadsSetup, Stands, fine}
 use Rattle.face_words.specs.Inside.{eight, wordsOf}
 use Rattle.schedule_answers.specs.Inside.{shortPaper}
 use Rattle.face_reading.specs.Reading.{recordFrom, setupFrom, storeSetup, wellCounted, word}
-use Rattle.silotwist.specs.RecordFace.{longEnough}
-use Rattle.silotwist.specs.ScheduleFace.{ScheduleFaces, countWritten, judgedCall, scheduleCall}
+use Rattle.face.specs.RecordFace.{longEnough}
+use Rattle.face.specs.ScheduleFace.{ScheduleFaces, countWritten, judgedCall, scheduleCall}
 use Rattle.face_words.specs.declared.Words.{Words}
 use borrow.Author.Tests.{le-leb, lt-leb}
 use lib.Dec.{leb}

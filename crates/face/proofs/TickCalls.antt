@@ -8,15 +8,15 @@ use Rattle.schedule.specs.State.{State}
 use Rattle.schedule.specs.declared.Setup.{Setup}
 use Rattle.tick.specs.Promise.{Ticks, left}
 use Rattle.tick.specs.Tick.{Logged}
-use Rattle.silotwist.proofs.Answering.{no-room, with-room}
-use Rattle.silotwist.proofs.ScheduleCalls.{changes, changes-no-room, changes-short, judged-is, judgedOf, short-is, worded}
-use Rattle.silotwist.specs.Face.{answering}
+use Rattle.face.proofs.Answering.{no-room, with-room}
+use Rattle.face.proofs.ScheduleCalls.{changes, changes-no-room, changes-short, judged-is, judgedOf, short-is, worded}
+use Rattle.face.specs.Face.{answering}
 use Rattle.face_reading.specs.Inside.{ReadsSetup, Stands}
 use Rattle.face_words.specs.Inside.{eight, wordsOf}
 use Rattle.schedule_answers.specs.Inside.{shortPaper}
 use Rattle.face_reading.specs.Reading.{recordFrom, word}
-use Rattle.silotwist.specs.ScheduleFace.{countWritten, judgedCall, scheduleCall}
-use Rattle.silotwist.specs.TickFace.{TickFaces}
+use Rattle.face.specs.ScheduleFace.{countWritten, judgedCall, scheduleCall}
+use Rattle.face.specs.TickFace.{TickFaces}
 use Rattle.face_words.specs.declared.Words.{Words}
 use lib.ListN.{drop, length, set}
 use mathlib.Core.Bool.{Bool, false, true}

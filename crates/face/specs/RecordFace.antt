@@ -10,7 +10,7 @@ use lib.ListN.{length, set}
 use mathlib.Core.Bool.{Bool}
 use mathlib.Core.List.{List, []}
 use mathlib.Core.Path.{_≡_}
-use Rattle.silotwist.specs.Face.{Answers, answering}
+use Rattle.face.specs.Face.{Answers, answering}
 use Rattle.face_reading.specs.Reading.{recordFrom, recordWords}
 
 -- 2, BadBuffers: a record of fewer than 6 words

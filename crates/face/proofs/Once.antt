@@ -5,11 +5,11 @@ use Rattle.rules.proofs.Order.{through-says, refusal-keeps}
 use Rattle.rules.specs.Papers.{Outcome, says}
 use Rattle.schedule.specs.State.{State}
 use Rattle.slots.specs.Pools.{Pool}
-use Rattle.silotwist.specs.Face.{Answers}
-use Rattle.silotwist.specs.RecordFace.{RecordFaces}
-use Rattle.silotwist.specs.ScheduleFace.{ScheduleFaces}
-use Rattle.silotwist.specs.StoreFace.{BufferFaces, StoreFaces}
-use Rattle.silotwist.specs.TickFace.{TickFaces}
+use Rattle.face.specs.Face.{Answers}
+use Rattle.face.specs.RecordFace.{RecordFaces}
+use Rattle.face.specs.ScheduleFace.{ScheduleFaces}
+use Rattle.face.specs.StoreFace.{BufferFaces, StoreFaces}
+use Rattle.face.specs.TickFace.{TickFaces}
 use Rattle.tick.specs.Tick.{Logged}
 use mathlib.Core.List.{List}
 use mathlib.Core.Path.{_∙_, _≡_, ap, sym}

@@ -15,7 +15,7 @@ use Rattle.lookup.specs.declared.Whereabouts.{Whereabouts}
 use Rattle.lookup.specs.declared.Whereabouts.the-variants as W
 use Rattle.face_words.proofs.Told.{two-is}
 use Rattle.face_words.specs.Inside.{wordsOf}
-use Rattle.silotwist.specs.StoreFace.{partIn}
+use Rattle.face.specs.StoreFace.{partIn}
 use Rattle.face_words.specs.declared.Words.{Words}
 use lib.ListN.{take}
 use mathlib.Core.List.{List, [], _∷_}

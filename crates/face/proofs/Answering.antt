@@ -6,7 +6,7 @@ use Rattle.face_words.specs.Padding.{padded}
 use Rattle.face_words.specs.declared.Words.{Words}
 use Rattle.rules.specs.Papers.{Outcome, Paper, no, refused, says}
 use Rattle.rules.specs.Tests.{unless}
-use Rattle.silotwist.specs.Face.{Answers, answered, answering}
+use Rattle.face.specs.Face.{Answers, answered, answering}
 use borrow.Author.Tests.{le-leb, lt-leb}
 use lib.ListN.{drop, length}
 use mathlib.Core.List.{List, [], _++_}

@@ -13,12 +13,12 @@ use Rattle.lookup.specs.Refusals.{bit}
 use Rattle.rows.specs.Entries.{relaid}
 use Rattle.time.specs.declared.Margin.{Margin}
 use Rattle.time.specs.declared.UnixTime.{UnixTime}
-use Rattle.silotwist.proofs.ScheduleCalls.{carries, faces-done, stands-count, worded-is}
-use Rattle.silotwist.proofs.Writing.{Ends, ends-done, ends-unless, written-after}
+use Rattle.face.proofs.ScheduleCalls.{carries, faces-done, stands-count, worded-is}
+use Rattle.face.proofs.Writing.{Ends, ends-done, ends-unless, written-after}
 use Rattle.face_reading.specs.Inside.{ReadsSetup, Stands}
 use Rattle.face_words.specs.Inside.{eight, recordSet, wordsOf, writtenIf}
 use Rattle.face_reading.specs.Reading.{recordFrom, word}
-use Rattle.silotwist.specs.ScheduleFace.{ScheduleFaces, allWritten, judgedCall, resetWritten, scheduleCall}
+use Rattle.face.specs.ScheduleFace.{ScheduleFaces, allWritten, judgedCall, resetWritten, scheduleCall}
 use Rattle.face_words.specs.declared.Words.{Words}
 use lib.ListN.{drop, length, set}
 use lib.Seq.{set-getD}

@@ -9,12 +9,12 @@ use Rattle.slots.specs.Pools.{Pool}
 use Rattle.store.specs.Promise.{Writes}
 use Rattle.lookup.specs.Promise.{Reads}
 use Rattle.layout.specs.declared.Setup.{Setup}
-use Rattle.silotwist.proofs.Answering.{answers, answers-no-room, no-room, with-room}
-use Rattle.silotwist.specs.Face.{Answers}
+use Rattle.face.proofs.Answering.{answers, answers-no-room, no-room, with-room}
+use Rattle.face.specs.Face.{Answers}
 use Rattle.face_reading.specs.Inside.{ReadsStore, fine}
 use Rattle.face_words.specs.Inside.{eight, wordsOf}
 use Rattle.face_reading.specs.Reading.{storeSetup, wellCounted}
-use Rattle.silotwist.specs.StoreFace.{BufferFaces, StoreFaces, storeCall}
+use Rattle.face.specs.StoreFace.{BufferFaces, StoreFaces, storeCall}
 use Rattle.face_words.specs.declared.Words.{Words}
 use lib.ListN.{drop, length}
 use mathlib.Core.Bool.{Bool, _&&_, false, true}

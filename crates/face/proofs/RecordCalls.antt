@@ -7,13 +7,13 @@ use Rattle.record.specs.declared.Record.{Record}
 use Rattle.rules.specs.Papers.{Outcome, after, no, refused, says}
 use Rattle.rules.specs.Tests.{unless}
 use Rattle.time.specs.declared.UnixTime.{UnixTime}
-use Rattle.silotwist.proofs.Answering.{answers, answers-no-room, no-room, with-room}
-use Rattle.silotwist.proofs.Writing.{Ends, ends-done, ends-unless, written-after}
+use Rattle.face.proofs.Answering.{answers, answers-no-room, no-room, with-room}
+use Rattle.face.proofs.Writing.{Ends, ends-done, ends-unless, written-after}
 use Rattle.face_reading.proofs.Standing.{stands-same}
 use Rattle.face_reading.specs.Inside.{Stands}
 use Rattle.face_words.specs.Inside.{eight, wordsOf, writtenIf}
 use Rattle.face_reading.specs.Reading.{recordFrom}
-use Rattle.silotwist.specs.RecordFace.{RecordFaces, clockWritten, longEnough, markWritten, recordCall}
+use Rattle.face.specs.RecordFace.{RecordFaces, clockWritten, longEnough, markWritten, recordCall}
 use Rattle.face_words.specs.declared.Words.{Words}
 use borrow.Author.Tests.{le-leb, lt-leb}
 use lib.ListN.{drop, length}
