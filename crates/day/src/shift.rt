@@ -1,8 +1,7 @@
 // What a shift has: the scheduler's setup and record, and the totals so far.
 use record::Record;
-use report::totals;
-use report::totals::Totals;
 use schedule::Setup;
+use tally::Totals;
 use time::Margin;
 use time::UnixTime;
 
@@ -34,7 +33,7 @@ pub fn begun() -> Shift {
     };
     Shift {
         rec: rec,
-        totals: totals::none(),
+        totals: tally::none(),
     }
 }
 

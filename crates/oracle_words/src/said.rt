@@ -66,8 +66,8 @@ pub fn signed(line: &[u8], at: usize, n: u64) -> usize {
 }
 
 fn pair(line: &[u8], at: usize, b: u8) -> usize {
-    let to = byte(line, at, out::digit(b / 16));
-    byte(line, to, out::digit(b % 16))
+    let to = byte(line, at, digits::digit(b / 16));
+    byte(line, to, digits::digit(b % 16))
 }
 
 // A mark and bytes, two digits each; "-" where there are none.

@@ -1,13 +1,13 @@
 // The records of a release log, a line for each: when, what became of the command, whose it is, its flag and its bytes.
 use crate::answers;
 use crate::clock;
-use crate::totals::Totals;
 use log_reader::Found;
 use log_reader::Item;
+use tally::Totals;
 use text::out;
 use time::UnixTime;
 ghost use mathlib.Core.Path.{_≡_};
-ghost use Rattle.report.specs.Tally.{tallyFound, tallyLog};
+ghost use Rattle.tally.specs.Tally.{tallyFound, tallyLog};
 
 fn fate(flag: u8) {
     if flag == 1 {

@@ -1,10 +1,13 @@
-// The calls that start a schedule, count it and change the record alone, in place; the others are in `inserting` and `deleting`.
+// The calls, on as much as is lent. Those that change all tables are in `inserting` and `deleting`; here are those that change less.
+use crate::deleting;
 use crate::inserting;
 use crate::line;
+use by_id::Taken;
 use lent::Lent;
 use record::Changed;
 use record::Record;
 use text::out;
+use windows::TimeWindow;
 
 // Does a call on as much of the tables as is lent, writes its answer, and gives back the record.
 pub fn on_lent(
@@ -37,36 +40,96 @@ fn run(
     lens: &mut [u16],
     rows: &mut [u64],
 ) -> Record {
-    if k > line::DISABLE {
+    if k > line::WRAPPED {
+        return deleting::run(b, k, text, store, lens, rows);
+    }
+    if k > line::TAKE {
         return inserting::run(b, k, text, store, lens, rows);
     }
-    if k == line::START {
-        let c = starting::fresh_start(
-            b.setup,
-            b.rec,
-            store,
-            lens,
-            rows,
-            line::time(text, 1),
-            line::margin(text, 3),
-        );
-        return change(c);
-    }
-    if k == line::COUNT {
-        shown::counted(counting::count(b.setup, b.rec, store, lens, rows));
-        return b.rec;
-    }
-    set(b.rec, k, text)
+    on_rows(b, k, text, store, lens, rows)
 }
 
-fn set(rec: Record, k: usize, text: &[u8]) -> Record {
+// The calls to which store and lengths are lent to be read.
+fn on_rows(b: Lent, k: usize, text: &[u8], store: &[u8], lens: &[u16], rows: &mut [u64]) -> Record {
+    if k == line::STORED {
+        return stored(b, text, store, lens, rows);
+    }
+    if k == line::TAKE {
+        let id = line::number(text, 1);
+        return taken(by_id_public::delete_by_request_id(b.setup, b.rec, store, lens, rows, id));
+    }
+    if k > line::DISABLE {
+        ask(b, k, text, store, lens, rows);
+        return b.rec;
+    }
+    change(set(b.rec, k, text))
+}
+
+fn stored(b: Lent, text: &[u8], store: &[u8], lens: &[u16], rows: &mut [u64]) -> Record {
+    let t = line::time(text, 1);
+    let id = line::number(text, 3);
+    let addr = line::number(text, 4);
+    let c = insertions_public::insert_unwrapped_and_stored_tc(
+        b.setup,
+        b.rec,
+        store,
+        lens,
+        rows,
+        t,
+        id,
+        addr,
+    );
+    change(c)
+}
+
+fn taken(t: Taken) -> Record {
+    let a = t.answer;
+    shown::taken(a);
+    t.next
+}
+
+// The calls that change nothing.
+fn ask(b: Lent, k: usize, text: &[u8], store: &[u8], lens: &[u16], rows: &[u64]) {
+    if k == line::COUNT {
+        shown::counted(counting::count(b.setup, b.rec, store, lens, rows));
+        return;
+    }
+    let w = window(text);
+    shown::retrieved(deletions_public::retrieve_by_time_filter(
+        b.setup,
+        b.rec,
+        store,
+        lens,
+        rows,
+        w,
+    ));
+}
+
+// all; fromto and two times; from or to and a time.
+pub fn window(text: &[u8]) -> TimeWindow {
+    let k = line::which(text, 1, b"fromto from to all");
+    let t = line::time(text, 2);
+    if k == 0 {
+        return TimeWindow::FromTo(t, line::time(text, 4));
+    }
+    if k == 1 {
+        return TimeWindow::From(t);
+    }
+    if k == 2 {
+        return TimeWindow::To(t);
+    }
+    TimeWindow::All
+}
+
+// The calls that change the record alone, in place.
+fn set(rec: Record, k: usize, text: &[u8]) -> Changed {
     if k == line::CLOCK {
-        return change(in_place::set_clock(rec, line::time(text, 1)));
+        return in_place::set_clock(rec, line::time(text, 1));
     }
     if k == line::ENABLE {
-        return change(in_place::enable(rec));
+        return in_place::enable(rec);
     }
-    change(in_place::disable(rec))
+    in_place::disable(rec)
 }
 
 pub fn change(c: Changed) -> Record {

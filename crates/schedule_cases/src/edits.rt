@@ -9,27 +9,36 @@ pub fn edit(
     b: Lent,
     k: usize,
     text: &[u8],
-    store: &mut [u8],
-    lens: &mut [u16],
-    rows: &mut [u64],
+    store: &mut [u8; 120],
+    lens: &mut [u16; 7],
+    rows: &mut [u64; 20],
 ) -> Lent {
     if k == line::SHOW {
         show(b, text, store, lens, rows);
         return b;
     }
+    damage(b, k, text, store, lens, rows);
+    given(b, k, text)
+}
+
+// A packet taken from under the schedule, a length or a word of a row; any other line does none of these.
+fn damage(
+    b: Lent,
+    k: usize,
+    text: &[u8],
+    store: &mut [u8; 120],
+    lens: &mut [u16; 7],
+    rows: &mut [u64; 20],
+) {
     if k == line::VANISH {
         vanish(b, text, store, lens);
-        return b;
     }
     if k == line::LENGTH {
         lent::set_length(lens, line::index(text, 1), line::short(text, 2));
-        return b;
     }
     if k == line::WORD {
         lent::set_word(rows, line::index(text, 1), line::number(text, 2));
-        return b;
     }
-    given(b, k, text)
 }
 
 fn show(b: Lent, text: &[u8], store: &[u8], lens: &[u16], rows: &[u64]) {

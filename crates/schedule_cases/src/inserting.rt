@@ -1,6 +1,5 @@
-// The three insertions.
+// A fresh start, and the insertions of a packet.
 use crate::calls;
-use crate::deleting;
 use crate::line;
 use lent::Lent;
 use record::Record;
@@ -14,28 +13,23 @@ pub fn run(
     lens: &mut [u16],
     rows: &mut [u64],
 ) -> Record {
-    if k > line::STORED {
-        return deleting::run(b, k, text, store, lens, rows);
+    if k == line::START {
+        return start(b, text, store, lens, rows);
     }
     if k == line::WRAPPED {
         return wrapped(b, text, store, lens, rows);
     }
+    unwrapped(b, text, store, lens, rows)
+}
+
+fn start(b: Lent, text: &[u8], store: &mut [u8], lens: &mut [u16], rows: &mut [u64]) -> Record {
     let t = line::time(text, 1);
-    if k == line::STORED {
-        let id = line::number(text, 3);
-        let addr = line::number(text, 4);
-        let c = insertions_public::insert_unwrapped_and_stored_tc(
-            b.setup,
-            b.rec,
-            store,
-            lens,
-            rows,
-            t,
-            id,
-            addr,
-        );
-        return calls::change(c);
-    }
+    let m = line::margin(text, 3);
+    calls::change(starting::fresh_start(b.setup, b.rec, store, lens, rows, t, m))
+}
+
+fn unwrapped(b: Lent, text: &[u8], store: &mut [u8], lens: &mut [u16], rows: &mut [u64]) -> Record {
+    let t = line::time(text, 1);
     let mut tc = [0u8; 64];
     let n = line::bytes(text, 3, &mut tc);
     inserted(insertions_public::insert_unwrapped_tc(b.setup, b.rec, store, lens, rows, t, &tc[..n]))

@@ -10,29 +10,33 @@ pub use text::line::short;
 pub use text::line::time;
 pub use text::line::which;
 
-pub const START: usize = 0;
+// Calls that change the record alone.
+pub const CLOCK: usize = 0;
 
-pub const COUNT: usize = 1;
+pub const ENABLE: usize = 1;
 
-pub const CLOCK: usize = 2;
+pub const DISABLE: usize = 2;
 
-pub const ENABLE: usize = 3;
+// Calls that change nothing.
+pub const COUNT: usize = 3;
 
-pub const DISABLE: usize = 4;
+pub const RETRIEVE: usize = 4;
 
-pub const UNWRAPPED: usize = 5;
+// Calls that change the rows, and no packet.
+pub const STORED: usize = 5;
 
-pub const WRAPPED: usize = 6;
+pub const TAKE: usize = 6;
 
-pub const STORED: usize = 7;
+// Calls that change all of it.
+pub const START: usize = 7;
 
-pub const RETRIEVE: usize = 8;
+pub const UNWRAPPED: usize = 8;
 
-pub const DELETE: usize = 9;
+pub const WRAPPED: usize = 9;
 
-pub const RESET: usize = 10;
+pub const DELETE: usize = 10;
 
-pub const TAKE: usize = 11;
+pub const RESET: usize = 11;
 
 pub const FREE: usize = 12;
 
@@ -58,7 +62,7 @@ pub fn code(text: &[u8]) -> usize {
     let call = which(
         text,
         0,
-        b"start count clock enable disable unwrapped wrapped stored retrieve delete reset take free",
+        b"clock enable disable count retrieve stored take start unwrapped wrapped delete reset free",
     );
     if call < CALLS {
         return call;

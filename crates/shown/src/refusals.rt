@@ -6,23 +6,6 @@ use text::out;
 use time::Margin;
 use time::UnixTime;
 
-// A refusal's number and name.
-fn name(no: u64) {
-    out::number(b"", no);
-    out::say(b" ");
-    if no < 11 {
-        out::word(
-            b"- BadSetup BadBuffers StateDamaged BadTime WrongService WrongSubservice TcDataEmpty BadTimestamp TcUnreadable NestedScheduledTc",
-            no as usize,
-        );
-    } else {
-        out::word(
-            b"DataTooLarge StoreFull ReleaseTimeInTimeMargin ScheduleFull ReversedWindow InvalidSubpool InvalidPacketIdx DataDoesNotExist BufferTooSmall LogTooSmall",
-            (no - 11) as usize,
-        );
-    }
-}
-
 fn value(n: u64) {
     out::number(b" ", n);
 }
@@ -70,11 +53,11 @@ fn schedule_values(e: ScheduleRefusal) {
 }
 
 pub fn of_store(e: StoreRefusal) {
-    name(refusal_numbers::of_store(e));
+    refusal_names::name(refusal_numbers::of_store(e));
     store_values(e);
 }
 
 pub fn of_schedule(e: ScheduleRefusal) {
-    name(refusal_numbers::of_schedule(e));
+    refusal_names::name(refusal_numbers::of_schedule(e));
     schedule_values(e);
 }

@@ -1,5 +1,4 @@
 // What the test programs share: the words of a line read, text, numbers, times and bytes written, and buffers compared.
 pub mod line;
-mod numbers;
 pub mod out;
 pub mod same;

@@ -1,5 +1,4 @@
 // A line: where it and its words end, which word is which, and the numbers, times and bytes that the words are.
-use crate::numbers;
 use time::Margin;
 use time::UnixTime;
 ghost use mathlib.Core.Path.{_≡_};
@@ -85,7 +84,7 @@ pub fn which(text: &[u8], k: usize, names: &[u8]) -> usize {
 
 // The number that word k begins with; 0 where it begins with none, and the largest there is where it is larger.
 pub fn number(text: &[u8], k: usize) -> u64 {
-    numbers::decimal(text, word(text, k))
+    digits::decimal(text, word(text, k))
 }
 
 // The same with a sign.
@@ -95,9 +94,9 @@ pub fn signed(text: &[u8], k: usize) -> i64 {
         return 0;
     }
     if text[at] == b'-' {
-        return numbers::below(numbers::decimal(text, at + 1));
+        return digits::below(digits::decimal(text, at + 1));
     }
-    numbers::above(numbers::decimal(text, at))
+    digits::above(digits::decimal(text, at))
 }
 
 pub fn index(text: &[u8], k: usize) -> usize {
@@ -177,10 +176,10 @@ pub fn bytes(text: &[u8], k: usize, out: &mut [u8]) -> usize
             if text.len() - i < 2 {
                 return n;
             }
-            if !numbers::both(text[i], text[i + 1]) {
+            if !digits::both(text[i], text[i + 1]) {
                 return n;
             }
-            out[n] = numbers::pair(text[i], text[i + 1]);
+            out[n] = digits::pair(text[i], text[i + 1]);
             n += 1;
             i += 2;
         }

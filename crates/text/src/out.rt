@@ -2,9 +2,6 @@
 use crate::line;
 use time::Margin;
 use time::UnixTime;
-ghost use mathlib.Core.Path.{_≡_};
-ghost use Prim.Native.Nat.{_<_};
-ghost use Rattle.text.specs.Digits.{value};
 
 pub fn say(text: &[u8]) {
     io::write_all(libc::STDOUT_FILENO, text);
@@ -98,16 +95,8 @@ pub fn rows(part: &[u64]) {
 
 // A byte as two digits, as `line::bytes` reads them.
 pub fn byte(b: u8) {
-    let two = [digit(b / 16), digit(b % 16)];
+    let two = [digits::digit(b / 16), digits::digit(b % 16)];
     say(&two);
-}
-
-// A digit below 16; read back, it is the same.
-pub fn digit(d: u8) -> u8
-    requires { ⌜ d < 16 ⌝ }
-    ensures { λ r. ⌜ value r ≡ d ⌝ }
-{
-    if d < 10 { 48 + d } else { 55 + d }
 }
 
 // Bytes with a space between them.

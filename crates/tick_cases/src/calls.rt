@@ -50,7 +50,13 @@ fn done(
 }
 
 // A length, a word of a row; and a view of all.
-fn table(k: u8, text: &[u8], store: &[u8], lens: &mut [u16], rows: &mut [u64]) {
+fn table(
+    k: u8,
+    text: &[u8],
+    store: &[u8; 1048576],
+    lens: &mut [u16; 258],
+    rows: &mut [u64; 16388],
+) {
     if k == b'N' {
         lent::set_length(lens, line::index(text, 1), line::short(text, 3));
         return;
@@ -70,21 +76,12 @@ fn change(
     rec: Record,
     k: u8,
     text: &[u8],
-    store: &mut [u8],
-    lens: &mut [u16],
-    rows: &mut [u64],
+    store: &mut [u8; 1048576],
+    lens: &mut [u16; 258],
+    rows: &mut [u64; 16388],
 ) -> Record {
     if k == b's' {
-        let c = starting::fresh_start(
-            setup,
-            rec,
-            store,
-            lens,
-            rows,
-            line::time_of(text, 2, 4),
-            line::margin(b"0 0", 0),
-        );
-        return c.next;
+        return start(setup, rec, line::time_of(text, 2, 4), store, lens, rows);
     }
     if k == b'i' {
         return insert(setup, rec, text, store, lens, rows);
@@ -96,14 +93,28 @@ fn change(
     mark(rec, k, text)
 }
 
+// A fresh start, with no margin.
+fn start(
+    setup: Setup,
+    rec: Record,
+    t: UnixTime,
+    store: &mut [u8; 1048576],
+    lens: &mut [u16; 258],
+    rows: &mut [u64; 16388],
+) -> Record {
+    let m = line::margin(b"0 0", 0);
+    let c = starting::fresh_start(setup, rec, store, lens, rows, t, m);
+    c.next
+}
+
 // Document 01's packet P.
 fn packet(
     setup: Setup,
     rec: Record,
     t: UnixTime,
-    store: &mut [u8],
-    lens: &mut [u16],
-    rows: &mut [u64],
+    store: &mut [u8; 1048576],
+    lens: &mut [u16; 258],
+    rows: &mut [u64; 16388],
 ) -> Record {
     let p = insertions_public::insert_unwrapped_tc(
         setup,
@@ -118,7 +129,13 @@ fn packet(
 }
 
 // The store's own calls.
-fn kept(k: u8, setup: layout::Setup, text: &[u8], store: &mut [u8], lens: &mut [u16]) {
+fn kept(
+    k: u8,
+    setup: layout::Setup,
+    text: &[u8],
+    store: &mut [u8; 1048576],
+    lens: &mut [u16; 258],
+) {
     if k == b'a' {
         add(setup, text, store, lens);
         return;

@@ -53,15 +53,20 @@ fn written(part: &[u8]) -> usize {
     0
 }
 
-// How many bytes were written, and which; of more than 160 the first eight, and the check code of all.
+// How many bytes were written, and which.
 pub fn show_log(part: &[u8]) {
     let n = line::least(written(part), part.len());
     out::number(b" ; log: ", n as u64);
     out::say(b" bytes ");
-    if n <= 160 {
-        out::hex(&part[0..n]);
+    bytes(&part[0..n]);
+}
+
+// Of more than 160 the first eight, and the check code of all.
+fn bytes(part: &[u8]) {
+    if part.len() <= 160 {
+        out::hex(part);
         return;
     }
     out::hex(&part[0..8]);
-    out::number(b" .. check code ", wide16(check_code::of(&part[0..n])));
+    out::number(b" .. check code ", wide16(check_code::of(part)));
 }

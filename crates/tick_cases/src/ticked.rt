@@ -24,13 +24,13 @@ pub fn run(
 // The log is longer than the part that a tick uses.
 fn logged(b: Lent, text: &[u8], store: &mut [u8], lens: &mut [u16], rows: &mut [u64]) -> Record {
     let mut log = state::blank();
-    let rec = tick(b, text, store, lens, rows, &mut log);
+    let rec = on_lent(b, text, store, lens, rows, &mut log);
     state::show_log(&log);
     rec
 }
 
-// The tick on what is lent: keep or delete, the log's length, the limit.
-fn tick(
+// On as much of the tables as is lent, and a log of the length that the line says.
+fn on_lent(
     b: Lent,
     text: &[u8],
     store: &mut [u8],
@@ -42,16 +42,28 @@ fn tick(
     let l = line::least(b.lens, lens.len());
     let r = line::least(b.rows, rows.len());
     let n = line::part(text, 3, log.len());
-    let t = tick_public::tick(
-        b.setup,
-        b.rec,
+    tick(
+        b,
+        text,
         &mut store[0..s],
         &mut lens[0..l],
         &mut rows[0..r],
         &mut log[0..n],
-        line::index(text, 5),
-        line::which(text, 1, b"delete,") == 0,
-    );
+    )
+}
+
+// Keep or delete, and the limit.
+fn tick(
+    b: Lent,
+    text: &[u8],
+    store: &mut [u8],
+    lens: &mut [u16],
+    rows: &mut [u64],
+    log: &mut [u8],
+) -> Record {
+    let limit = line::index(text, 5);
+    let delete = line::which(text, 1, b"delete,") == 0;
+    let t = tick_public::tick(b.setup, b.rec, store, lens, rows, log, limit, delete);
     out::say(b" => ");
     let a = t.answer;
     shown::ticked(a);

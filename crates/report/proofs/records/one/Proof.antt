@@ -1,5 +1,5 @@
 -- `report::records::one` meets its contract.
-use Rattle.report.specs.Tally.{tallyFound}
+use Rattle.tally.specs.Tally.{tallyFound}
 use borrow.Author.Needs.{needs}
 use Rattle.report.proofs.records.one.Statement.{statement}
 use Rattle.report.proofs.records.one.Tie as tie
