@@ -1,7 +1,7 @@
 // What a shift has: the scheduler's setup and record, and the totals so far.
 use record::Record;
 use schedule::Setup;
-use tally::Totals;
+use shift_totals::Totals;
 use time::Margin;
 use time::UnixTime;
 
@@ -33,7 +33,7 @@ pub fn begun() -> Shift {
     };
     Shift {
         rec: rec,
-        totals: tally::none(),
+        totals: shift_totals::none(),
     }
 }
 

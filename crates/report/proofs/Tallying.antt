@@ -2,8 +2,8 @@
 use Prim.Native.Nat.{_+_, _-_, _<_, _≤_, suc, ℕ}
 use Rattle.log_reader.specs.Finding.{counted, foundIn}
 use Rattle.log_reader.specs.declared.Found.{Found}
-use Rattle.tally.specs.Tally.{tallyFound, tallyFrom, tallyLog}
-use Rattle.tally.specs.declared.Totals.{Totals}
+use Rattle.shift_totals.specs.Tally.{tallyFound, tallyFrom, tallyLog}
+use Rattle.shift_totals.specs.declared.Totals.{Totals}
 use mathlib.Core.List.{List}
 use mathlib.Core.Path.{_∙_, _≡_, ap, refl}
 use native.Mathlib.Omega.{arith}

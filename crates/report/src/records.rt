@@ -3,11 +3,11 @@ use crate::answers;
 use crate::clock;
 use log_reader::Found;
 use log_reader::Item;
-use tally::Totals;
+use shift_totals::Totals;
 use text::out;
 use time::UnixTime;
 ghost use mathlib.Core.Path.{_≡_};
-ghost use Rattle.tally.specs.Tally.{tallyFound, tallyLog};
+ghost use Rattle.shift_totals.specs.Tally.{tallyFound, tallyLog};
 
 fn fate(flag: u8) {
     if flag == 1 {

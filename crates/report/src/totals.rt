@@ -1,5 +1,5 @@
 // The totals of a shift, written out.
-use tally::Totals;
+use shift_totals::Totals;
 use text::out;
 
 // The report's last lines.

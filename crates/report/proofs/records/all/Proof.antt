@@ -1,5 +1,5 @@
 -- `report::records::all` meets its contract.
-use Rattle.tally.specs.Tally.{tallyFrom}
+use Rattle.shift_totals.specs.Tally.{tallyFrom}
 use mathlib.Core.Path.{_≡_}
 use Rattle.report.proofs.Tallying.{tally-first, tally-last, tally-next}
 use Prim.Native.Nat.{_-_, _≤_}

@@ -1,5 +1,5 @@
 -- `report::records::one` meets its contract.
-use Rattle.tally.specs.Tally.{tallyFound}
+use Rattle.shift_totals.specs.Tally.{tallyFound}
 use borrow.Author.Needs.{needs}
 use Rattle.report.proofs.records.one.Statement.{statement}
 use Rattle.report.proofs.records.one.Tie as tie

@@ -1,8 +1,8 @@
 -- `tally::Totals::discarded` meets its contract.
-use Rattle.tally.specs.Tally.{withDiscarded}
+use Rattle.shift_totals.specs.Tally.{withDiscarded}
 use borrow.Author.Needs.{needs}
-use Rattle.tally.proofs.Totals.discarded.Statement.{statement}
-use Rattle.tally.proofs.Totals.discarded.Tie as tie
+use Rattle.shift_totals.proofs.Totals.discarded.Statement.{statement}
+use Rattle.shift_totals.proofs.Totals.discarded.Tie as tie
 
 returns : tie.Need-returns
 unfolding withDiscarded

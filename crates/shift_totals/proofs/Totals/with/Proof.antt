@@ -1,9 +1,9 @@
 -- `tally::Totals::with` meets its contract.
 use borrow.Author.Tests.{eq-eqb, ne-eqb}
-use Rattle.tally.specs.Tally.{tally}
+use Rattle.shift_totals.specs.Tally.{tally}
 use borrow.Author.Needs.{needs}
-use Rattle.tally.proofs.Totals.with.Statement.{statement}
-use Rattle.tally.proofs.Totals.with.Tie as tie
+use Rattle.shift_totals.proofs.Totals.with.Statement.{statement}
+use Rattle.shift_totals.proofs.Totals.with.Tie as tie
 
 returns : tie.Need-returns
 unfolding tally

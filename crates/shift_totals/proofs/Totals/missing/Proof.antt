@@ -1,8 +1,8 @@
 -- `tally::Totals::missing` meets its contract.
-use Rattle.tally.specs.Tally.{withMissing}
+use Rattle.shift_totals.specs.Tally.{withMissing}
 use borrow.Author.Needs.{needs}
-use Rattle.tally.proofs.Totals.missing.Statement.{statement}
-use Rattle.tally.proofs.Totals.missing.Tie as tie
+use Rattle.shift_totals.proofs.Totals.missing.Statement.{statement}
+use Rattle.shift_totals.proofs.Totals.missing.Tie as tie
 
 returns : tie.Need-returns
 unfolding withMissing

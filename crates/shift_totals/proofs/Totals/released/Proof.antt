@@ -1,9 +1,9 @@
 -- `tally::Totals::released` meets its contract.
 use borrow.Author.Tests.{eq-eqb, ne-eqb}
-use Rattle.tally.specs.Tally.{withReleased}
+use Rattle.shift_totals.specs.Tally.{withReleased}
 use borrow.Author.Needs.{needs}
-use Rattle.tally.proofs.Totals.released.Statement.{statement}
-use Rattle.tally.proofs.Totals.released.Tie as tie
+use Rattle.shift_totals.proofs.Totals.released.Statement.{statement}
+use Rattle.shift_totals.proofs.Totals.released.Tie as tie
 
 returns : tie.Need-returns
 unfolding withReleased

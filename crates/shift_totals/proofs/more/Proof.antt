@@ -1,9 +1,9 @@
 -- `tally::more` meets its contract.
 use borrow.Author.Tests.{le-ltb, lt-ltb}
-use Rattle.tally.specs.Tally.{more}
+use Rattle.shift_totals.specs.Tally.{more}
 use borrow.Author.Needs.{needs}
-use Rattle.tally.proofs.more.Statement.{statement}
-use Rattle.tally.proofs.more.Tie as tie
+use Rattle.shift_totals.proofs.more.Statement.{statement}
+use Rattle.shift_totals.proofs.more.Tie as tie
 
 returns : tie.Need-returns
 unfolding more

@@ -1,6 +1,6 @@
 // The totals of a shift: how many commands were released, discarded and missing.
 ghost use mathlib.Core.Path.{_≡_};
-ghost use Rattle.tally.specs.Tally.{more as oneMore, tally, withDiscarded, withMissing, withReleased};
+ghost use Rattle.shift_totals.specs.Tally.{more as oneMore, tally, withDiscarded, withMissing, withReleased};
 
 // `behind` counts the released ones that came after a missing packet.
 pub struct Totals {

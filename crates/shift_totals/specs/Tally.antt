@@ -3,7 +3,7 @@ use Prim.Native.Nat.{_+_, suc, zero, ℕ}
 use Rattle.log_reader.specs.Finding.{counted, foundIn}
 use Rattle.log_reader.specs.declared.Found.{Found}
 use Rattle.log_reader.specs.declared.Found.the-variants.{Outside, Record}
-use Rattle.tally.specs.declared.Totals.{Totals}
+use Rattle.shift_totals.specs.declared.Totals.{Totals}
 use lib.Dec.{eqb, ltb}
 use mathlib.Core.Bool.{cond}
 use mathlib.Core.List.{List}
