@@ -1,10 +1,9 @@
 // The original's answers, replayed: each line's request goes to the proved library, and its answer and all that it hands out is compared with theirs.
-mod asks;
-mod store_asks;
 mod tally;
 
 use oracle_words::answers;
 use oracle_words::kinds;
+use oracle_words::records::GROUND;
 use oracle_words::states;
 use tally::CELLS;
 use tally::Line;
@@ -105,8 +104,9 @@ fn asked(
 ) -> Line
     requires { ⌜ arrow ≤ length (now text) ⌝ }
 {
+    fill(bytes);
     let mut words = [0u64; 8];
-    let number = asks::ask(
+    let number = ask(
         k,
         &text[0..arrow],
         setup,
@@ -119,6 +119,35 @@ fn asked(
     );
     let same = answers::told(k, text, arrow, number, &words, rows, bytes);
     tally::of(k, number, same)
+}
+
+// What is handed out is written over a ground of its own.
+fn fill(bytes: &mut [u8]) {
+    let mut i: usize = 0;
+    while i < bytes.len() {
+        bytes[i] = GROUND;
+        i += 1;
+    }
+}
+
+fn ask(
+    k: usize,
+    text: &[u8],
+    setup: &[u64],
+    record: &mut [u64],
+    store: &mut [u8],
+    lens: &mut [u16],
+    rows: &mut [u64],
+    bytes: &mut [u8],
+    answer: &mut [u64; 8],
+) -> u32 {
+    if k > kinds::RELEASE {
+        return oracle_store::ask(k, text, setup, store, lens, bytes, answer);
+    }
+    if k < kinds::WINDOW {
+        return oracle_given::ask(k, text, setup, record, store, lens, rows, bytes, answer);
+    }
+    oracle_taken::ask(k, text, setup, record, store, lens, rows, bytes, answer)
 }
 
 // A new sequence has its own setup.

@@ -1,11 +1,11 @@
--- `oracle_list::asks::fill` is safe.
+-- `oracle_list::fill` is safe.
 use Prim.Native.Nat.{_-_, _≤_}
 use lib.ListN.{length, length-set}
 use mathlib.Core.Path.{_≡_}
 use native.Mathlib.Omega.{arith}
 use borrow.Author.Needs.{needs}
-use Rattle.oracle_list.proofs.asks.fill.Statement.{statement}
-use Rattle.oracle_list.proofs.asks.fill.Tie as tie
+use Rattle.oracle_list.proofs.fill.Statement.{statement}
+use Rattle.oracle_list.proofs.fill.Tie as tie
 
 abbrev Inv-loop : tie.InvT-loop
 Inv-loop bytes₀ i₀ bytes i = (i ≤ length bytes₀) × (length bytes ≡ length bytes₀)

@@ -1,5 +1,5 @@
-// The store's requests.
-use crate::asks;
+// The store's requests, to the proved library. Each ask gives the number that was returned; the answer's words, and the bytes handed out,
+// are in what is lent.
 use oracle_words::kinds;
 use silotwist::store_calls;
 use text::line;
@@ -20,19 +20,7 @@ pub fn ask(
     if k == kinds::READ {
         return read(text, setup, store, lens, bytes, answer);
     }
-    at(k, text, setup, store, lens, line::number(text, 1), answer)
-}
-
-// What is asked of an address.
-fn at(
-    k: usize,
-    text: &[u8],
-    setup: &[u64],
-    store: &mut [u8],
-    lens: &mut [u16],
-    address: u64,
-    answer: &mut [u64; 8],
-) -> u32 {
+    let address = line::number(text, 1);
     if k == kinds::DELETE {
         return store_calls::silotwist_store_delete(setup, store, lens, address, answer);
     }
@@ -53,7 +41,6 @@ fn read(
     bytes: &mut [u8],
     answer: &mut [u64],
 ) -> u32 {
-    asks::fill(bytes);
     let address = line::number(text, 1);
     let n = line::part(text, 2, bytes.len());
     store_calls::silotwist_store_read(setup, store, lens, address, &mut bytes[0..n], answer)

@@ -1,10 +1,10 @@
--- `oracle_list::store_asks::rewrite` is safe.
+-- `oracle_store::rewrite` is safe.
 use Prim.Native.Nat.{_+_, _-_, _≤_}
 use lib.ListN.{length}
 use mathlib.Core.Path.{_≡_}
 use borrow.Author.Needs.{needs}
-use Rattle.oracle_list.proofs.store_asks.rewrite.Statement.{statement}
-use Rattle.oracle_list.proofs.store_asks.rewrite.Tie as tie
+use Rattle.oracle_store.proofs.rewrite.Statement.{statement}
+use Rattle.oracle_store.proofs.rewrite.Tie as tie
 
 abbrev Inv-loop : tie.InvT-loop
 Inv-loop store₀ from len by n place₀ i₀ store place i = (i ≤ n) × (from + n ≤ length store) × (length store ≡ length store₀)
