@@ -19,7 +19,6 @@ use native.Mathlib.Numerals.{add-one}
 use native.Mathlib.Omega.{arith}
 use Rattle.layout.specs.declared.Setup.{Setup}
 use Rattle.store.specs.declared.Deleted.{Deleted}
-use Rattle.store.specs.declared.Deleted.the-variants as D
 use Rattle.store_laws.proofs.Numbers.{by-deleted}
 
 pub record Going (su : Setup) (st₀ le₀ addrs st le : List ℕ) (gone i : ℕ) : Type 0 where

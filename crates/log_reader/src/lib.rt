@@ -2,7 +2,7 @@
 ghost use mathlib.Core.Path.{_≡_};
 ghost use Prim.Native.Nat.{_*_, _+_, _<_, _≤_};
 ghost use lib.ListN.{length};
-ghost use Rattle.log.specs.Reading.{countOf, endOf, offsetOf};
+ghost use Rattle.log.specs.Reading.{countOf, endOf};
 ghost use Rattle.log_reader.specs.Finding.{between as betweenIn, counted, foundIn};
 
 // A record: flag, request ID, address as inserted, and where in the log its packet's bytes are.

@@ -1,7 +1,6 @@
 // The calls that see the record alone.
 use face_words::telling;
 use time::UnixTime;
-ghost use mathlib.Core.Path.{_≡_};
 ghost use mathlib.Core.Bool.{false, true};
 ghost use Rattle.record.specs.Record.{clockIn, markIn};
 ghost use Rattle.face.specs.RecordFace.{RecordFaces, clockWritten, markWritten, recordCall};

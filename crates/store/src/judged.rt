@@ -1,7 +1,5 @@
 // The calls that change the store, for a caller that has judged: the tables are sound, and stay so.
 ghost use mathlib.Core.Path.{_≡_};
-ghost use Prim.Native.Nat.{ℕ, _+_, _*_, _-_, _≤_, _<_};
-ghost use lib.ListN.{length};
 ghost use Rattle.layout.specs.Judge.{Sized, Sound};
 ghost use Rattle.store.specs.Refusals.{deletedPaper, addedPaper};
 ghost use Rattle.slots.specs.View.{Leaves, view};

@@ -1,7 +1,6 @@
 // A line: where it and its words end, which word is which, and the numbers, times and bytes that the words are.
 use time::Margin;
 use time::UnixTime;
-ghost use mathlib.Core.Path.{_≡_};
 ghost use Prim.Native.Nat.{_+_, _-_, _≤_};
 ghost use lib.ListN.{length};
 ghost use Rattle.io.specs.Counts.{Counts};

@@ -15,7 +15,6 @@ use Rattle.rules.specs.Papers.{Outcome, done, no, refused}
 use Rattle.rules.specs.Tests.{unless}
 use Rattle.selection.specs.Inside.{EndsInRange}
 use Rattle.selection.specs.declared.MomentWindow.{MomentWindow}
-use Rattle.selection.specs.declared.MomentWindow.the-variants as T
 use Rattle.time.proofs.Judged.{time-judged}
 use Rattle.time.specs.Time.{InRange, inRange}
 use Rattle.time.specs.declared.UnixTime.{UnixTime}
