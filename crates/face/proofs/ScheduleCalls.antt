@@ -15,9 +15,8 @@ use Rattle.rows.specs.Entries.{relaid}
 use Rattle.face.proofs.Answering.{answers, answers-no-room, no-room, with-room}
 use Rattle.face_reading.proofs.Standing.{stands-same}
 use Rattle.face.specs.Face.{Answers}
-use Rattle.face_reading.specs.Inside.{ReadsSetup, Stands, fine}
+use Rattle.face_reading.specs.Inside.{ReadsSetup, Stands, fine, shortPaper}
 use Rattle.face_words.specs.Inside.{eight, wordsOf}
-use Rattle.schedule_answers.specs.Inside.{shortPaper}
 use Rattle.face_reading.specs.Reading.{recordFrom, setupFrom, storeSetup, wellCounted, word}
 use Rattle.face.specs.RecordFace.{longEnough}
 use Rattle.face.specs.ScheduleFace.{ScheduleFaces, countWritten, judgedCall, scheduleCall}

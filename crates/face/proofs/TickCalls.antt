@@ -11,9 +11,8 @@ use Rattle.tick.specs.Tick.{Logged}
 use Rattle.face.proofs.Answering.{no-room, with-room}
 use Rattle.face.proofs.ScheduleCalls.{changes, changes-no-room, changes-short, judged-is, judgedOf, short-is, worded}
 use Rattle.face.specs.Face.{answering}
-use Rattle.face_reading.specs.Inside.{ReadsSetup, Stands}
+use Rattle.face_reading.specs.Inside.{ReadsSetup, Stands, shortPaper}
 use Rattle.face_words.specs.Inside.{eight, wordsOf}
-use Rattle.schedule_answers.specs.Inside.{shortPaper}
 use Rattle.face_reading.specs.Reading.{recordFrom, word}
 use Rattle.face.specs.ScheduleFace.{countWritten, judgedCall, scheduleCall}
 use Rattle.face.specs.TickFace.{TickFaces}

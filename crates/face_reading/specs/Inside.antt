@@ -3,11 +3,13 @@
 use Prim.Native.Nat.{_*_, _+_, ℕ}
 use Rattle.face_reading.specs.Reading.{storeSetup, wellCounted, word}
 use Rattle.record.specs.Record.{timesInRange}
+use Rattle.rules.specs.Papers.{Paper, no}
 use Rattle.rules.specs.Tests.{allBelow}
+use Rattle.schedule.specs.Judge.{setupOk}
 use Rattle.layout.specs.Limits.{maxSubpools}
 use lib.Dec.{ltb}
 use mathlib.Core.Bool.{Bool, _&&_, cond, false, true}
-use mathlib.Core.List.{List}
+use mathlib.Core.List.{List, []}
 use mathlib.Core.Path.{_≡_}
 use Rattle.record.specs.declared.Record.{Record}
 use Rattle.schedule.specs.declared.Setup.{Setup}
@@ -40,3 +42,7 @@ pub record Stands (x r : Record) : Type 0 where
   pub count : r .count ≡ x .count
   pub same : timesInRange x ≡ true → r ≡ x
   pub damaged : timesInRange x ≡ false → timesInRange r ≡ false
+
+-- a record of fewer than 6 words: all of 1 comes before it
+unfoldable pub shortPaper : Setup → Paper
+shortPaper su = no (cond (setupOk su) 2 1) []

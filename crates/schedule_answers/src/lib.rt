@@ -27,7 +27,8 @@ ghost use Rattle.storing.specs.Answers.{insertedPaper};
 ghost use Rattle.record.specs.Refusals.{donePaper, marginWords, paper, timeWords};
 ghost use Rattle.rules.specs.Papers.{no};
 ghost use Rattle.counting.specs.Answers.{countedPaper};
-ghost use Rattle.schedule_answers.specs.Inside.{carrying, shortPaper};
+ghost use Rattle.face_reading.specs.Inside.{shortPaper};
+ghost use Rattle.schedule_answers.specs.Inside.{carrying};
 ghost use Rattle.tick.specs.Promise.{tickPaper};
 
 // A record with too few words: 1 where the setup is bad, and else 2.

@@ -1,5 +1,5 @@
 -- `schedule_answers::short_record` meets its contract.
-use Rattle.schedule_answers.specs.Inside.{shortPaper}
+use Rattle.face_reading.specs.Inside.{shortPaper}
 use mathlib.Core.Path.{_∙_, sym}
 use borrow.Author.Needs.{needs}
 use Rattle.schedule_answers.proofs.short_record.Statement.{statement}
