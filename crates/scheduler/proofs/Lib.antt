@@ -13,4 +13,5 @@ pub mod Standing
 pub mod Releasing
 pub mod StaysSound
 pub mod Stepping
+pub mod DueFirst
 pub mod Draining

@@ -1,15 +1,22 @@
 -- What the laws say: demand 1, of steps; of record and lent lists, that they are as they were, and that a call did what the step of its
 -- request says; and repeated ticks as requests.
 use Prim.Native.Nat.{_≤_, ℕ}
+use Rattle.handing.specs.Handing.{afterAll}
 use Rattle.record.specs.declared.Record.{Record}
+use Rattle.rows.specs.Entries.{Entry, time}
 use Rattle.rules.specs.Papers.{Paper}
 use Rattle.schedule.specs.Judge.{Sound}
-use Rattle.schedule.specs.State.{State, stateOf}
+use Rattle.schedule.specs.State.{State, stateOf, withEntries, withPools}
 use Rattle.schedule.specs.declared.Setup.{Setup}
 use Rattle.scheduler.specs.Steps.{Answer, Request, bufferOf, step, tick}
+use Rattle.selection.specs.Windows.{filter}
 use Rattle.tick.specs.Tick.{usable}
+use Rattle.time.specs.Time.{instant}
+use Rattle.turn.specs.Turns.{leave}
 use Rattle.turns_laws.specs.Draining.{roomFor}
-use mathlib.Core.Bool.{Bool}
+use lib.Dec.{leb}
+use lib.ListN.{drop, take}
+use mathlib.Core.Bool.{Bool, not}
 use mathlib.Core.List.{List, [], _∷_}
 use mathlib.Core.Path.{_≡_}
 
@@ -41,6 +48,26 @@ pub record StepsAs (su : Setup) (r : Record) (st le ro : List ℕ) (q : Request)
 abbrev pub ticks : ℕ → Bool → List (List ℕ) → List Request
 ticks k del [] = []
 ticks k del (log ∷ logs) = tick k del log ∷ ticks k del logs
+
+-- the first m entries have had their turns: the others are left, and the store as those turns leave it
+abbrev pub afterFirst : ℕ → Bool → State → State
+afterFirst m del s = withEntries (drop m (s .entries)) (withPools (afterAll (leave del) (take m (s .entries)) (s .pools)) s)
+
+-- at or before the clock's instant; the entries that are so, and those that are not, wherever they stand, in their order
+abbrev pub isDue : ℕ → Entry → Bool
+isDue ck e = leb (time e) ck
+
+abbrev pub dueOnes : ℕ → List Entry → List Entry
+dueOnes ck es = filter (isDue ck) es
+
+abbrev pub notDue : ℕ → List Entry → List Entry
+notDue ck es = filter (λ e. not (isDue ck e)) es
+
+-- all due entries have had their turns, and no other
+abbrev pub afterDue : Bool → State → State
+afterDue del s =
+    withEntries (notDue (instant (s .clock)) (s .entries))
+    (withPools (afterAll (leave del) (dueOnes (instant (s .clock)) (s .entries)) (s .pools)) s)
 
 -- the used part of each has room for k records with packets of `big` bytes
 abbrev pub AllAmple : ℕ → ℕ → List (List ℕ) → Type 0

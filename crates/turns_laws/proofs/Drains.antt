@@ -35,7 +35,7 @@ unfolding turns afterAll
 turns-append after on [] ys ps = refl
 turns-append after on (e ∷ xs) ys ps = ap (handed (on e) e (find ps (e .addr)) ∷_) (turns-append after on xs ys (after ps (e .addr)))
 
-after-append : (after : List Pool → ℕ → List Pool) (xs ys : List Entry) (ps : List Pool)
+pub after-append : (after : List Pool → ℕ → List Pool) (xs ys : List Entry) (ps : List Pool)
     → afterAll after (xs ++ ys) ps ≡ afterAll after ys (afterAll after xs ps)
 unfolding afterAll
 after-append after [] ys ps = refl
