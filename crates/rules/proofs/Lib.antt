@@ -5,3 +5,4 @@ pub mod Cases
 pub mod Each
 pub mod First
 pub mod Order
+pub mod Passing

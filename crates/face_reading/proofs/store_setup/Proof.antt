@@ -1,9 +1,9 @@
 -- `face_reading::store_setup` meets its contract.
 use Rattle.face_reading.proofs.Narrow.{fine-counted, fine-few, fine-narrow, reads-all, reads-bad}
 use Rattle.face_reading.specs.Reading.{switched}
-use borrow.Author.Tests.{not-false, not-true}
-use mathlib.Core.Bool.{false≢true}
-use mathlib.Core.Path.{_∙_, ap, sym}
+use Rattle.rules.proofs.Cases.{clash}
+use Rattle.rules.proofs.Passing.{failed, passed}
+use mathlib.Core.Path.{_∙_, ap}
 use native.Mathlib.Omega.{arith}
 use borrow.Author.Needs.{needs}
 use Rattle.face_reading.proofs.store_setup.Statement.{statement}
@@ -16,14 +16,14 @@ returns-2 : tie.Need-returns-2
 returns-2 c = reads-bad _ _ (λ f. omega (arith, fine-counted _ f)) (c .bad-setup2 .ensures)
 
 returns-3 : tie.Need-returns-3
-returns-3 c = reads-bad _ _ (λ f. false≢true (sym (not-true _ (c .before .if3 .taken)) ∙ c .before .before .is-narrow .ensures ∙ fine-narrow _ f))
+returns-3 c = reads-bad _ _ (λ f. clash _ (fine-narrow _ f) (failed (c .before .before .is-narrow .ensures) (c .before .if3 .taken)))
     (c .bad-setup3 .ensures)
 
 column-requires : tie.Need-column-requires
-column-requires c κs = (sym (c .before .is-narrow .ensures) ∙ not-false _ (c .if3 .left), (omega arith, omega arith))
+column-requires c κs = (passed (c .before .is-narrow .ensures) (c .if3 .left), (omega arith, omega arith))
 
 column-requires-2 : tie.Need-column-requires-2
-column-requires-2 c κs = (sym (c .before .before .is-narrow .ensures) ∙ not-false _ (c .before .if3 .left), (omega arith, omega arith))
+column-requires-2 c κs = (passed (c .before .before .is-narrow .ensures) (c .before .if3 .left), (omega arith, omega arith))
 
 returns-4 : tie.Need-returns-4
 returns-4 c = reads-all _ _ _ _ _ (c .before .before .before .before .before .before .before .before .word .ensures) (search needs)

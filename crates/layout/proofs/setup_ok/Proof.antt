@@ -1,8 +1,9 @@
 -- `layout::setup_ok` meets its contract.
 use Rattle.layout.specs.Judge.{setupOk}
 use mathlib.Core.Bool.{and-true}
+use Rattle.rules.proofs.Passing.{failed, passed}
 use Rattle.rules.specs.Tests.{allOf}
-use borrow.Author.Tests.{le-leb, lt-leb, not-false, not-true}
+use borrow.Author.Tests.{le-leb, lt-leb}
 use borrow.Author.Needs.{needs}
 use Rattle.layout.proofs.setup_ok.Statement.{statement}
 use Rattle.layout.proofs.setup_ok.Tie as tie
@@ -21,8 +22,7 @@ returns-3 c =
     simp (
       le-leb _ _ (c .before .before .before .if1 .left),
       le-leb _ _ (c .before .before .if2 .left),
-      ← (c .before .pools-ok .ensures),
-      not-true (c .before .pools-ok .result) (c .if3 .taken),
+      failed (c .before .pools-ok .ensures) (c .if3 .taken),
     )
 
 returns-4 : tie.Need-returns-4
@@ -31,8 +31,7 @@ returns-4 c =
     simp (
       le-leb _ _ (c .before .before .before .before .if1 .left),
       le-leb _ _ (c .before .before .before .if2 .left),
-      ← (c .before .before .pools-ok .ensures),
-      not-false (c .before .before .pools-ok .result) (c .before .if3 .left),
+      passed (c .before .before .pools-ok .ensures) (c .before .if3 .left),
       ← (c .bytes-before .ensures .0),
       and-true,
     )

@@ -2,8 +2,9 @@
 use Rattle.packet.proofs.Readable.{readable-is}
 use Rattle.packet.specs.Packet.{readOf}
 use Rattle.packet_tests.specs.Tests.{checkBytes, headerBits, longEnough, totalInBounds, versionNibble}
+use Rattle.rules.proofs.Passing.{failed, passed}
 use Rattle.rules.specs.Tests.{unless}
-use borrow.Author.Tests.{le-leb, lt-leb, not-false, not-true}
+use borrow.Author.Tests.{le-leb, lt-leb}
 use mathlib.Core.Bool.{true}
 use mathlib.Core.Path.{_∙_, _≡_, ap, sym}
 use borrow.Author.Needs.{needs}
@@ -15,17 +16,17 @@ long : (c : tie.Else1) → longEnough 2 (c .before .before .args .bytes .now) �
 long c = le-leb _ _ (c .if1 .left)
 
 total : (c : tie.Else2) → totalInBounds 2 (c .before .before .before .before .args .bytes .now) ≡ true
-total c = sym (c .before .total-in-bounds .ensures) ∙ not-false _ (c .if2 .left)
+total c = passed (c .before .total-in-bounds .ensures) (c .if2 .left)
 
 bits : (c : tie.Else3) → headerBits (c .before .before .before .before .before .before .args .bytes .now) ≡ true
-bits c = sym (c .before .header-bits .ensures) ∙ not-false _ (c .if3 .left)
+bits c = passed (c .before .header-bits .ensures) (c .if3 .left)
 
 nibble : (c : tie.Else4) → versionNibble (c .before .before .before .before .before .before .before .before .args .bytes .now) ≡ true
-nibble c = sym (c .before .version-nibble .ensures) ∙ not-false _ (c .if4 .left)
+nibble c = passed (c .before .version-nibble .ensures) (c .if4 .left)
 
 check : (c : tie.Else5)
     → checkBytes (c .before .before .before .before .before .before .before .before .before .before .args .bytes .now) ≡ true
-check c = sym (c .before .check-bytes .ensures) ∙ not-false _ (c .if5 .left)
+check c = passed (c .before .check-bytes .ensures) (c .if5 .left)
 
 returns : tie.Need-returns
 unfolding readOf unless
@@ -34,23 +35,20 @@ returns c = simp (lt-leb _ _ (c .if1 .taken))
 returns-2 : tie.Need-returns-2
 unfolding readOf unless
 returns-2 c =
-    let p = c .before .total-in-bounds in
-    simp (long (c .before .before), sym (p .ensures) ∙ not-true (p .result) (c .if2 .taken))
+    simp (long (c .before .before), failed (c .before .total-in-bounds .ensures) (c .if2 .taken))
 
 returns-3 : tie.Need-returns-3
 unfolding readOf unless
 returns-3 c =
-    let p = c .before .header-bits in
     let e2 = c .before .before in
-    simp (long (e2 .before .before), total e2, sym (p .ensures) ∙ not-true (p .result) (c .if3 .taken))
+    simp (long (e2 .before .before), total e2, failed (c .before .header-bits .ensures) (c .if3 .taken))
 
 returns-4 : tie.Need-returns-4
 unfolding readOf unless
 returns-4 c =
-    let p = c .before .version-nibble in
     let e3 = c .before .before in
     let e2 = e3 .before .before in
-    simp (long (e2 .before .before), total e2, bits e3, sym (p .ensures) ∙ not-true (p .result) (c .if4 .taken))
+    simp (long (e2 .before .before), total e2, bits e3, failed (c .before .version-nibble .ensures) (c .if4 .taken))
 
 check-bytes-requires : tie.Need-check-bytes-requires
 check-bytes-requires c κs = (c .before .before .before .before .before .before .if1 .left, total (c .before .before .before .before))
@@ -58,11 +56,10 @@ check-bytes-requires c κs = (c .before .before .before .before .before .before 
 returns-5 : tie.Need-returns-5
 unfolding readOf unless
 returns-5 c =
-    let p = c .before .check-bytes in
     let e4 = c .before .before in
     let e3 = e4 .before .before in
     let e2 = e3 .before .before in
-    simp (long (e2 .before .before), total e2, bits e3, nibble e4, sym (p .ensures) ∙ not-true (p .result) (c .if5 .taken))
+    simp (long (e2 .before .before), total e2, bits e3, nibble e4, failed (c .before .check-bytes .ensures) (c .if5 .taken))
 
 returns-6 : tie.Need-returns-6
 returns-6 c =

@@ -1,36 +1,34 @@
 -- `windows::open` meets its contract.
 use mathlib.Core.Bool.{true}
-use mathlib.Core.Path.{_≡_, _∙_, sym}
+use mathlib.Core.Path.{_≡_}
 use borrow.Author.Needs.{needs}
-use borrow.Author.Tests.{not-false, not-true}
+use Rattle.rules.proofs.Passing.{failed, passed}
 use Rattle.windows.specs.Windowing.{endsInRange}
 use Rattle.windows.proofs.Openings.{open-at, open-bad, open-reversed}
 use Rattle.windows.proofs.open.Statement.{statement}
 use Rattle.windows.proofs.open.Tie as tie
 
 fine : (c : tie.Else1) → endsInRange (c .before .before .args .w) ≡ true
-fine c = let p = c .before .ends-in-range in sym (p .ensures) ∙ not-false (p .result) (c .if1 .left)
+fine c = passed (c .before .ends-in-range .ensures) (c .if1 .left)
 
 returns : tie.Need-returns
-returns c = let p = c .before .ends-in-range in open-bad (c .before .before .args .w) (sym (p .ensures) ∙ not-true (p .result) (c .if1 .taken))
+returns c = open-bad (c .before .before .args .w) (failed (c .before .ends-in-range .ensures) (c .if1 .taken))
 
 forward-requires : tie.Need-forward-requires
 forward-requires c κs = fine c
 
 returns-2 : tie.Need-returns-2
 returns-2 c =
-    let p = c .before .forward in
     let e = c .before .before in
-    open-reversed (e .before .before .args .w) (fine e) (sym (p .ensures) ∙ not-true (p .result) (c .if2 .taken))
+    open-reversed (e .before .before .args .w) (fine e) (failed (c .before .forward .ensures) (c .if2 .taken))
 
 moments-requires : tie.Need-moments-requires
 moments-requires c κs = fine (c .before .before)
 
 returns-3 : tie.Need-returns-3
 returns-3 c =
-    let p = c .before .before .forward in
     let e = c .before .before .before in
-    open-at (e .before .before .args .w) _ (fine e) (sym (p .ensures) ∙ not-false (p .result) (c .before .if2 .left))
+    open-at (e .before .before .args .w) _ (fine e) (passed (c .before .before .forward .ensures) (c .before .if2 .left))
     (c .moments .ensures .0) (c .moments .ensures .1)
 
 pub open-spec : {M : Type 1} → statement M

@@ -1,9 +1,9 @@
 -- `gate::judged::insert_unwrapped_and_stored_tc` meets its contract.
 use mathlib.Core.Bool.{true}
-use mathlib.Core.Path.{_≡_, _∙_, ap, sym}
+use mathlib.Core.Path.{_≡_, _∙_, ap}
 use native.Mathlib.Omega.{arith}
 use borrow.Author.Needs.{needs}
-use borrow.Author.Tests.{not-false, not-true}
+use Rattle.rules.proofs.Passing.{failed, passed}
 use Rattle.table_edit.specs.Edits.{afterInsert}
 use Rattle.rows.specs.Entries.{entryOf}
 use Rattle.time.proofs.Judged.{time-judged}
@@ -16,14 +16,13 @@ use Rattle.gate.proofs.judged.insert_unwrapped_and_stored_tc.Statement.
 use Rattle.gate.proofs.judged.insert_unwrapped_and_stored_tc.Tie as tie
 
 timely : (c : tie.Else1) → inRange (c .before .before .before .before .before .args .release) ≡ true
-timely c = let p = c .before .in-range in sym (p .ensures) ∙ not-false (p .result) (c .if1 .left)
+timely c = passed (c .before .in-range .ensures) (c .if1 .left)
 
 returns : tie.Need-returns
 returns c =
-    let p = c .before .in-range in
     let a = c .before .before .before .before .before .args in
     stored-bad (a .setup) (a .rec) (a .store .now) (a .lens .now) (a .rows .now) (a .release) (a .request-id) (a .addr)
-    (sym (p .ensures) ∙ not-true (p .result) (c .if1 .taken))
+    (failed (c .before .in-range .ensures) (c .if1 .taken))
 
 gate-requires : tie.Need-gate-requires
 gate-requires c κs =

@@ -1,8 +1,8 @@
 -- `insertions::inserting::insert_unwrapped_tc` meets its contract.
 use mathlib.Core.Bool.{true}
-use mathlib.Core.Path.{_≡_, _∙_, sym}
+use mathlib.Core.Path.{_≡_}
 use borrow.Author.Needs.{needs}
-use borrow.Author.Tests.{not-false, not-true}
+use Rattle.rules.proofs.Passing.{failed, passed}
 use Rattle.time.proofs.Judged.{time-judged}
 use Rattle.time.specs.Time.{inRange}
 use Rattle.storing.specs.Answers.{insertedPaper}
@@ -11,17 +11,16 @@ use Rattle.insertions.proofs.inserting.insert_unwrapped_tc.Statement.{s
 use Rattle.insertions.proofs.inserting.insert_unwrapped_tc.Tie as tie
 
 timely : (c : tie.Else1) → inRange (c .before .before .before .before .before .before .args .release) ≡ true
-timely c = let p = c .before .in-range in sym (p .ensures) ∙ not-false (p .result) (c .if1 .left)
+timely c = passed (c .before .in-range .ensures) (c .if1 .left)
 
 returns : tie.Need-returns
 unfolding insertedPaper
 returns c =
     let t = c .before in
-    let p = t .before .in-range in
     let a = t .before .before .before .before .before .before .args in
     rw (c .refuse .ensures .0, c .refuse .ensures .1)
     (unwrapped-bad (a .setup) (a .rec) (a .store .now) (a .lens .now) (a .rows .now) (a .release) (a .tc .now)
-    (sym (p .ensures) ∙ not-true (p .result) (t .if1 .taken)))
+    (failed (t .before .in-range .ensures) (t .if1 .taken)))
 
 insert-tc-requires : tie.Need-insert-tc-requires
 insert-tc-requires c κs =

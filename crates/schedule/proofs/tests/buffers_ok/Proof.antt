@@ -1,8 +1,7 @@
 -- `schedule::tests::buffers_ok` meets its contract.
 use mathlib.Core.Bool.{and-true}
-use mathlib.Core.Path.{_∙_, sym}
 use native.Mathlib.Omega.{arith}
-use borrow.Author.Tests.{not-false, not-true}
+use Rattle.rules.proofs.Passing.{failed, passed}
 use Rattle.rules.specs.Tests.{allOf}
 use Rattle.schedule.specs.Judge.{buffersOk}
 use Rattle.schedule.proofs.Facts.{setup-facts}
@@ -14,7 +13,7 @@ buffers-ok-requires c κs = setup-facts (c .before .args .setup) (c .before .pre
 
 returns : tie.Need-returns
 unfolding buffersOk allOf
-returns c = let p = c .before .buffers-ok in simp (sym (p .ensures) ∙ not-true (p .result) (c .if1 .taken))
+returns c = simp (failed (c .before .buffers-ok .ensures) (c .if1 .taken))
 
 mul-result : tie.Need-mul-result
 mul-result c = let a = c .before .before .before .before in let h = setup-facts (a .args .setup) (a .pre) in omega arith
@@ -23,8 +22,7 @@ returns-2 : tie.Need-returns-2
 unfolding buffersOk allOf
 returns-2 c =
     let e = c .before in
-    let p = e .before .buffers-ok in
-    simp (sym (p .ensures) ∙ not-false (p .result) (e .if1 .left), and-true)
+    simp (passed (e .before .buffers-ok .ensures) (e .if1 .left), and-true)
 
 pub buffers-ok-spec : {M : Type 1} → statement M
 buffers-ok-spec = tie.close (tie.spec buffers-ok-requires returns mul-result returns-2)

@@ -1,9 +1,9 @@
 -- `schedule::tests::state_ok` meets its contract.
 use mathlib.Core.Bool.{and-true}
-use mathlib.Core.Path.{_∙_, sym}
 use native.Mathlib.Omega.{arith}
 use borrow.Author.Needs.{needs}
-use borrow.Author.Tests.{le-leb, lt-leb, not-false, not-true}
+use borrow.Author.Tests.{le-leb, lt-leb}
+use Rattle.rules.proofs.Passing.{failed, passed}
 use Rattle.rules.specs.Tests.{allOf}
 use Rattle.schedule.specs.Judge.{stateOk}
 use Rattle.schedule.proofs.Facts.{setup-facts}
@@ -17,8 +17,7 @@ returns c = simp (lt-leb _ _ (c .if1 .taken))
 returns-2 : tie.Need-returns-2
 unfolding stateOk allOf
 returns-2 c =
-    let p = c .before .times-in-range in
-    simp (le-leb _ _ (c .before .before .if1 .left), sym (p .ensures) ∙ not-true (p .result) (c .if2 .taken))
+    simp (le-leb _ _ (c .before .before .if1 .left), failed (c .before .times-in-range .ensures) (c .if2 .taken))
 
 in-order-requires : tie.Need-in-order-requires
 in-order-requires c κs =
@@ -29,13 +28,11 @@ in-order-requires c κs =
 returns-3 : tie.Need-returns-3
 unfolding stateOk allOf
 returns-3 c =
-    let o = c .before .in-order in
     let e2 = c .before .before in
-    let p = e2 .before .times-in-range in
     simp (
       le-leb _ _ (e2 .before .before .if1 .left),
-      sym (p .ensures) ∙ not-false (p .result) (e2 .if2 .left),
-      sym (o .ensures) ∙ not-true (o .result) (c .if3 .taken),
+      passed (e2 .before .times-in-range .ensures) (e2 .if2 .left),
+      failed (c .before .in-order .ensures) (c .if3 .taken),
     )
 
 lens-ok-requires : tie.Need-lens-ok-requires
@@ -48,13 +45,11 @@ returns-4 : tie.Need-returns-4
 unfolding stateOk allOf
 returns-4 c =
     let e3 = c .before .before in
-    let o = e3 .before .in-order in
     let e2 = e3 .before .before in
-    let p = e2 .before .times-in-range in
     simp (
       le-leb _ _ (e2 .before .before .if1 .left),
-      sym (p .ensures) ∙ not-false (p .result) (e2 .if2 .left),
-      sym (o .ensures) ∙ not-false (o .result) (e3 .if3 .left),
+      passed (e2 .before .times-in-range .ensures) (e2 .if2 .left),
+      passed (e3 .before .in-order .ensures) (e3 .if3 .left),
       and-true,
     )
     (c .lens-ok .ensures)
