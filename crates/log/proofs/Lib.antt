@@ -3,3 +3,4 @@ pub mod Sizes
 pub mod Putting
 pub mod Whole
 pub mod ReadBack
+pub mod Places

@@ -84,21 +84,21 @@ record-at p q r at end e f b =
         ∙ take-at (r .packet) q (end - (at + 17)) (omega arith)
 
 -- Where the offsets and the records of rs stand in a log, record i first, at `at`
-record Stands (log : List ℕ) (i at : ℕ) (rs : List LogRecord) : Type 0 where
-  p : List ℕ
-  q : List ℕ
-  s : List ℕ
-  t : List ℕ
-  offsets-there : log ≡ p ++ (offsets at rs ++ q)
-  offsets-at : length p ≡ 8 + 4 * i
-  records-there : log ≡ s ++ (records rs ++ t)
-  records-at : length s ≡ at
-  count : countOf log ≡ i + length rs
-  all : totalOf log ≡ at + length (records rs)
-  small : at + length (records rs) < 2 ^ 32
+pub record Stands (log : List ℕ) (i at : ℕ) (rs : List LogRecord) : Type 0 where
+  pub p : List ℕ
+  pub q : List ℕ
+  pub s : List ℕ
+  pub t : List ℕ
+  pub offsets-there : log ≡ p ++ (offsets at rs ++ q)
+  pub offsets-at : length p ≡ 8 + 4 * i
+  pub records-there : log ≡ s ++ (records rs ++ t)
+  pub records-at : length s ≡ at
+  pub count : countOf log ≡ i + length rs
+  pub all : totalOf log ≡ at + length (records rs)
+  pub small : at + length (records rs) < 2 ^ 32
 
 -- the next records, one further
-further : (log : List ℕ) (i at : ℕ) (r : LogRecord) (rs : List LogRecord) → Stands log i at (r ∷ rs)
+pub further : (log : List ℕ) (i at : ℕ) (r : LogRecord) (rs : List LogRecord) → Stands log i at (r ∷ rs)
     → Stands log (suc i) (at + 17 + length (r .packet)) rs
 unfolding offsets records
 further log i at r rs w =
@@ -116,14 +116,14 @@ further log i at r rs w =
       small = omega (arith, size-records r rs, w .small);
     }
 
-first-offset : (log : List ℕ) (i at : ℕ) (r : LogRecord) (rs : List LogRecord) → Stands log i at (r ∷ rs) → offsetOf log i ≡ at
+pub first-offset : (log : List ℕ) (i at : ℕ) (r : LogRecord) (rs : List LogRecord) → Stands log i at (r ∷ rs) → offsetOf log i ≡ at
 unfolding offsets
 first-offset log i at r rs w =
     ap (number 4 (8 + 4 * i)) (w .offsets-there ∙ ap (w .p ++_) (append-assoc (bytesOf 4 at) _ (w .q)))
     ∙ number-at (w .p) _ (8 + 4 * i) 4 at (w .offsets-at) (omega (arith, w .small))
 
 -- a record ends where the next begins, or at the total
-first-end : (log : List ℕ) (i at : ℕ) (r : LogRecord) (rs : List LogRecord) → Stands log i at (r ∷ rs)
+pub first-end : (log : List ℕ) (i at : ℕ) (r : LogRecord) (rs : List LogRecord) → Stands log i at (r ∷ rs)
     → endOf log i ≡ at + 17 + length (r .packet)
 first-end log i at r [] w =
     ap (λ (b : Bool). cond b (offsetOf log (i + 1)) (totalOf log)) (le-ltb (i + 1) (countOf log) (omega (arith, w .count)))
@@ -132,7 +132,7 @@ first-end log i at r (x ∷ rs) w =
     ap (λ (b : Bool). cond b (offsetOf log (i + 1)) (totalOf log)) (lt-ltb (i + 1) (countOf log) (omega (arith, w .count)))
     ∙ ap (offsetOf log) (omega arith) ∙ first-offset log (suc i) (at + 17 + length (r .packet)) x rs (further log i at r (x ∷ rs) w)
 
-first-record : (log : List ℕ) (i at : ℕ) (r : LogRecord) (rs : List LogRecord) → PlainOne r → Stands log i at (r ∷ rs)
+pub first-record : (log : List ℕ) (i at : ℕ) (r : LogRecord) (rs : List LogRecord) → PlainOne r → Stands log i at (r ∷ rs)
     → recordIn log (offsetOf log i) (endOf log i) ≡ r
 unfolding records
 first-record log i at r rs b w =
@@ -154,7 +154,7 @@ few (r ∷ rs) = omega (arith, total-more r rs, few rs)
 numbers-first : (a b d e : List ℕ) → ((a ++ b) ++ d) ++ e ≡ a ++ (b ++ (d ++ e))
 numbers-first a b d e = simp append-assoc
 
-stands : (log : List ℕ) (rs : List LogRecord) → total rs < 2 ^ 32 → Stands (logBytes rs ++ log) 0 (recordsAt rs) rs
+pub stands : (log : List ℕ) (rs : List LogRecord) → total rs < 2 ^ 32 → Stands (logBytes rs ++ log) 0 (recordsAt rs) rs
 stands log rs h =
     record {
       p = n ++ m;

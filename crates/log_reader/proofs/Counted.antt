@@ -1,7 +1,7 @@
--- What is known of a log that counts a record, and that an item found is the log's record.
+-- What is known of a log that counts a record, and what is found there.
 use Prim.Native.Nat.{_*_, _+_, _<_, _≤_, ℕ}
 use Rattle.log.specs.Reading.{countOf, endOf, offsetOf, recordIn}
-use Rattle.log_reader.specs.Finding.{between, counted, foundIn, itemIn, itemRecord}
+use Rattle.log_reader.specs.Finding.{between, counted, foundIn}
 use Rattle.log_reader.specs.declared.Found.{Found}
 use Rattle.log_reader.specs.declared.Found.the-variants.{Outside, Record}
 use Rattle.words.specs.Words.{number}
@@ -29,10 +29,6 @@ some-counted log i h = record { same = go .0; room = go .1 }
 
     go : (counted log ≡ countOf log) × (8 + 4 * counted log ≤ length log)
     go = unfold counted in pick (ltb (length log) 8) _ (countOf log) (length log) refl (unfold counted in h)
-
--- an item is the record that `log`'s reading finds there
-pub same-record : (log : List ℕ) (at end : ℕ) → itemRecord log (itemIn log at end) ≡ recordIn log at end
-same-record log at end = unfold recordIn in refl
 
 -- a record that lies between its ends
 pub lies : (log : List ℕ) (at end x y : ℕ) → end ≤ length log → at + 17 ≤ end → x ≡ number 8 (at + 1) log → y ≡ number 8 (at + 9) log

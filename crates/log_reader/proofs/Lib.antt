@@ -1,2 +1,3 @@
 -- Laws of reading a log.
 pub mod Counted
+pub mod Finds

@@ -1,2 +1,3 @@
 -- A release log, read record by record.
 pub mod Finding
+pub mod Laws

@@ -1,7 +1,7 @@
 -- A reader of the log that a handout fills finds the records that were handed out, each where its offset says.
 use Prim.Native.Nat.{_≤_, suc, zero, ℕ}
 use Rattle.log.proofs.ReadBack.{Plain, read-back}
-use Rattle.log.specs.Log.{logBytes, maxLogBytes}
+use Rattle.log.specs.Log.{logBytes, maxLogBytes, total}
 use Rattle.log.specs.Reading.{readLog}
 use Rattle.slots.specs.Pools.{Pool}
 use Rattle.rows.specs.Entries.{Entry}
@@ -24,11 +24,18 @@ plain-turns after on zero es ps w = tt
 plain-turns after on (suc m) [] ps w = tt
 plain-turns after on (suc m) (e ∷ es) ps w = (record { id-fits = w .0; addr-fits = w .1 }, plain-turns after on m es (after ps (e .addr)) (w .2))
 
+-- what a handout puts into the log: numbers that fit into their bytes, and no more than the log's used part holds
+pub log-holds : (after : List Pool → ℕ → List Pool) (on : Entry → Bool) (ck limit cap : ℕ) (es : List Entry) (ps : List Pool) → 8 ≤ cap → WordsIn es
+    → Plain (handout after on ck limit 8 cap es ps .records) × (total (handout after on ck limit 8 cap es ps .records) ≤ cap)
+log-holds after on ck limit cap es ps h w =
+    let m = length (handout after on ck limit 8 cap es ps .records) in
+    let s = splits after on ck limit 8 cap es ps in
+    rw (s .records-are) (plain-turns after on m es ps w, largest after on ck limit cap es ps h .fits)
+
 pub log-reads : (after : List Pool → ℕ → List Pool) (on : Entry → Bool) (ck limit cap : ℕ) (log : List ℕ) (es : List Entry) (ps : List Pool)
     → 8 ≤ cap → cap ≤ length log → cap ≤ maxLogBytes → WordsIn es
     → readLog (sets log 0 (logBytes (handout after on ck limit 8 cap es ps .records))) ≡ handout after on ck limit 8 cap es ps .records
 log-reads after on ck limit cap log es ps h l b w =
-    let m = length (handout after on ck limit 8 cap es ps .records) in
-    let s = splits after on ck limit 8 cap es ps in
-    let f = largest after on ck limit cap es ps h .fits in
-    rw (s .records-are) (read-back log (turns after on (take m es) ps) (plain-turns after on m es ps w) (omega arith) (omega arith))
+    let r = log-holds after on ck limit cap es ps h w in
+    let f = r .1 in
+    read-back log _ (r .0) (omega arith) (omega arith)

@@ -1,0 +1,2 @@
+-- The reader finds what a tick hands out.
+pub mod Found
