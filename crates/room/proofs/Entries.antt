@@ -4,7 +4,7 @@ use Rattle.room.proofs.Grow.{Slotted}
 use Rattle.table_edit.specs.Edits.{insertSorted, without}
 use Rattle.rows.specs.Entries.{Entry, time}
 use Rattle.selection.specs.Windows.{filter}
-use Rattle.turns_laws.proofs.Follows.{Addresses}
+use Rattle.turns_laws.specs.Laws.{Addresses}
 use lib.Dec.{leb}
 use lib.ListN.{drop, getD, length, take}
 use mathlib.Core.Bool.{Bool, cond, false, true}

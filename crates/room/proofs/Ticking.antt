@@ -13,7 +13,8 @@ use Rattle.tick.specs.Tick.{Logged, firstLacks, handedOut, tickIn, usable}
 use Rattle.time.specs.Time.{instant}
 use Rattle.turns.specs.Released.{firstTotal}
 use Rattle.turn.specs.Turns.{Handout, always, handout, leave}
-use Rattle.turns_laws.proofs.Follows.{SameButPools, follows}
+use Rattle.turns_laws.proofs.Follows.{follows}
+use Rattle.turns_laws.specs.Laws.{SameButPools}
 use Rattle.turns_laws.proofs.Split.{splits}
 use lib.ListN.{length}
 use mathlib.Core.Bool.{Bool, false, true}

@@ -1,5 +1,5 @@
 -- Repeated ticks as requests: with limit k at least 1, nothing between them and room for k records of the largest slot size, no tick is
--- refused, and within d / k of them, rounded rounded-up, all d due entries are handed out.
+-- refused, and within d / k of them, rounded up, all d due entries are handed out.
 use Prim.Native.Nat.{_*_, _+_, _-_, _≤_, min, suc, zero, ℕ}
 use Rattle.record.specs.declared.Record.{Record}
 use Rattle.rules.specs.Papers.{after, says}
@@ -18,9 +18,9 @@ use Rattle.time.specs.Time.{instant}
 use Rattle.turns.specs.Released.{firstTotal}
 use Rattle.turn.specs.Turns.{Handout, always, handout, leave}
 use Rattle.turns_laws.proofs.Drains.{one-hands, short-handout, rounded-up}
-use Rattle.turns_laws.proofs.Packets.{Short, short-need, sound-short}
+use Rattle.turns_laws.proofs.Packets.{short-need, sound-short}
 use Rattle.turns_laws.proofs.Split.{left-due}
-use Rattle.turns_laws.specs.Draining.{largestSlot, roomFor, roundedUp}
+use Rattle.turns_laws.specs.Draining.{Short, largestSlot, roomFor, roundedUp}
 use Rattle.turns_laws.specs.Due.{due}
 use lib.ListN.{length}
 use mathlib.Core.Bool.{Bool}
