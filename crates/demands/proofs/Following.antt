@@ -2,10 +2,10 @@
 use Prim.Native.Nat.{ℕ}
 use Rattle.demands.proofs.Parts.{same-answer}
 use Rattle.demands.specs.Calling.{Calls, ScheduleChanges, Lent, ScheduleLooks, Modifies, ReadsInto, StoreLooks}
+use Rattle.demands.specs.Following.{Fine, Follows, stands}
 use Rattle.rules.specs.Papers.{Outcome, after, done, through, says}
 use Rattle.schedule.proofs.Facts.{facts}
 use Rattle.schedule.proofs.Promises.{judging-fine}
-use Rattle.schedule.specs.Judge.{Sound}
 use Rattle.schedule.specs.State.{State, stateOf}
 use Rattle.schedule.specs.declared.Setup.{Setup}
 use Rattle.scheduler.proofs.Releasing.{tick-steps}
@@ -26,18 +26,6 @@ use lib.ListN.{length, take}
 use lib.Seq.{length-take-le}
 use mathlib.Core.List.{List, [], _∷_}
 use mathlib.Core.Path.{_∙_, _≡_, ap, refl, subst, sym}
-
--- what is lent stands for a state, and is sound
-abbrev pub stands : Setup → Lent → State
-stands su t = stateOf su (t .rec) (t .store) (t .lens) (t .rows)
-
-abbrev pub Fine : Setup → Lent → Type 0
-Fine su t = Sound su (t .rec) (t .store) (t .lens) (t .rows)
-
-pub record Follows (su : Setup) (q : Request) (t : Lent) (x : Answer) (u : Lent) : Type 0 where
-  pub sound : Fine su u
-  pub answer : x ≡ step su q (stands su t) .answer
-  pub state : stands su u ≡ step su q (stands su t) .state
 
 -- a packet that is found has all of its bytes
 held-whole : (su : StoreSetup) (st le : List ℕ) → StoreSound su st le → (a n : ℕ) (raw : List ℕ) → find (view su st le) a ≡ held n raw

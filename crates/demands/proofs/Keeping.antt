@@ -11,10 +11,10 @@ use Rattle.schedule.specs.Judge.{buffersOk, judging, setupOk}
 use Rattle.starting.specs.Starting.{freshState, startIn}
 use Rattle.schedule.specs.State.{State, stateOf}
 use Rattle.schedule.specs.declared.Setup.{Setup}
-use Rattle.scheduler.proofs.Numbers.{Own, clock-numbered, judged-most, mark-numbered, own-add, own-by-id, own-count, own-delete, own-has, own-keeping, own-len, own-packet, own-read, own-reset, own-retrieve, own-stored, own-tick, own-unless, own-unwrapped, own-window, own-wrapped}
+use Rattle.scheduler.proofs.Numbers.{clock-numbered, judged-most, mark-numbered, own-add, own-by-id, own-count, own-delete, own-has, own-keeping, own-len, own-packet, own-read, own-reset, own-retrieve, own-stored, own-tick, own-unless, own-unwrapped, own-window, own-wrapped}
 use Rattle.scheduler.proofs.RefusalKeeps.{call-keeps}
 use Rattle.scheduler.proofs.Releasing.{tick-keeps}
-use Rattle.scheduler.specs.Laws.{AnsweredOrRefused}
+use Rattle.scheduler.specs.Laws.{AnsweredOrRefused, Own}
 use Rattle.scheduler.specs.Steps.{Answer, Request, add, bufferOf, count, delete, deleteById, deleteKeeping, deleteWindow, disable, enable, hasElementAt, insertStored, insertUnwrapped, insertWrapped, lenOfData, modify, read, reset, retrieve, setClock, tick}
 use Rattle.lookup.specs.Calls.{judging as storeJudging, packetIn}
 use Rattle.layout.specs.Judge.{judged}

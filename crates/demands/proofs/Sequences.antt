@@ -1,7 +1,8 @@
 -- Calls one after another from a fresh start: they answer as the definitions say, none is damaged, and room changes no answer.
-use Rattle.demands.proofs.Following.{Fine, calls-follow, stands}
+use Rattle.demands.proofs.Following.{calls-follow}
 use Rattle.demands.specs.Calling.{Begins, Lent, Runs}
 use Rattle.demands.specs.Demands.{AsTheModel, NeverDamaged, NoneDamaged, RoomChangesNoAnswer, SameAsTheModel}
+use Rattle.demands.specs.Following.{Fine, stands}
 use Rattle.room.proofs.Demand.{room-never-changes-an-answer}
 use Rattle.record.specs.Record.{timesInRange}
 use Rattle.room.specs.Room.{RoomNeverChangesAnAnswer, strike, struck}

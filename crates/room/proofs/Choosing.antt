@@ -1,8 +1,8 @@
 -- What a smaller store chooses, spilling off, a larger one chooses too, whether it spills or not; and it is a slot of the smaller.
 use Prim.Native.Nat.{_<_, _≤_, suc, zero, ℕ}
-use Rattle.room.proofs.Grow.{NamedAt, Slotted, grow, shape}
 use Rattle.room.specs.FreeSlot.{MoreChangeNothing, slotTaken}
 use Rattle.address.specs.Address.{addressOf, poolOf, slotOf}
+use Rattle.room.specs.Grown.{NamedAt, Narrow, Slotted, grow, shape}
 use Rattle.slots.specs.Pools.{Choice, Pool, Slot, allTaken, choose, findAt, findSlot, free, into, lowest, next, pick, shiftPool, taken, tooLarge, vacant}
 use lib.Dec.{leb}
 use lib.ListN.{length}
@@ -65,11 +65,6 @@ unfolding findAt shape
 vacant-named [] k i e = let z : _≡_ {A = ℕ} 0 1 = cc in absurd (omega arith)
 vacant-named (p ∷ ps) zero i e = vacant-slot (p .slots) i e
 vacant-named (p ∷ ps) (suc k) i e = vacant-named ps k i e
-
--- at most 256 slots in each subpool
-abbrev pub Narrow : List ℕ → Type 0
-Narrow [] = Unit {0}
-Narrow (n ∷ ns) = (n ≤ 256) × Narrow ns
 
 named-pool : (ns : List ℕ) (k i : ℕ) → NamedAt ns k i → k < length ns
 named-pool [] k i h = absurd h

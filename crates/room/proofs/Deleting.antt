@@ -6,10 +6,10 @@ use Rattle.by_id.specs.ById.{deleteByIdIn, deleteKeepingIn, freed, takeIn}
 use Rattle.windows.specs.Windowing.{windowOf, windowed}
 use Rattle.windows.specs.declared.TimeWindow.{TimeWindow}
 use Rattle.room.proofs.Alike.{Left, answers, by-test, refuses}
-use Rattle.room.proofs.Entries.{Slots, filter-slots, slot-at, without-slots}
-use Rattle.room.proofs.Grow.{Slotted, grow, shape}
-use Rattle.room.proofs.States.{AlikeStates, Fit, grown}
+use Rattle.room.proofs.Entries.{filter-slots, slot-at, without-slots}
+use Rattle.room.proofs.States.{AlikeStates}
 use Rattle.room.proofs.StoreCalls.{delete-grow, delete-shape}
+use Rattle.room.specs.Grown.{Fit, Slots, Slotted, grow, grown, shape}
 use Rattle.rules.specs.Papers.{Outcome, done, through, refused}
 use Rattle.rules.specs.Tests.{unless}
 use Rattle.schedule.specs.State.{State, withEntries, withPools}

@@ -1,10 +1,8 @@
 -- Demand 3, over any list of requests.
 use Prim.Native.Nat.{_≤_, ℕ}
-use Rattle.room.proofs.Choosing.{Narrow}
 use Rattle.room.proofs.Fresh.{few-pools, few-slots, fresh-grow, fresh-shape, moreOf, slotsOf, slotted-by}
-use Rattle.room.proofs.Grow.{Slotted}
-use Rattle.room.proofs.States.{Fit, grown}
-use Rattle.room.proofs.Steps.{Good, steps}
+use Rattle.room.proofs.Steps.{steps}
+use Rattle.room.specs.Grown.{Fit, Good, Narrow, Slotted, grown}
 use Rattle.room.specs.Room.{EveryNamed, Named, RoomNeverChangesAnAnswer, answersOf, strike, struck}
 use Rattle.starting.specs.Starting.{freshState}
 use Rattle.schedule.specs.State.{State, withPools}

@@ -1,8 +1,6 @@
 -- A fresh larger store is a fresh smaller one with fresh slots behind, and what the smaller setup says of its slots.
 use Rattle.rules.proofs.Each.{length-each}
 use Prim.Native.Nat.{_+_, _-_, _<_, _≤_, suc, zero, ℕ}
-use Rattle.room.proofs.Choosing.{Narrow}
-use Rattle.room.proofs.Grow.{NamedAt, Slotted, grow, shape}
 use Rattle.room.specs.Room.{Named, Roomier}
 use Rattle.rules.proofs.All.{all-at, all-each}
 use Rattle.schedule.specs.Judge.{setupOk}
@@ -11,6 +9,7 @@ use Rattle.address.specs.Address.{poolOf, slotOf}
 use Rattle.store.specs.Calls.{freshPool, freshPools}
 use Rattle.layout.specs.Judge.{poolOkAt, setupOk as storeSetupOk}
 use Rattle.layout.specs.Layout.{slotsAt}
+use Rattle.room.specs.Grown.{NamedAt, Narrow, Slotted, grow, shape}
 use Rattle.slots.specs.Pools.{Pool, free}
 use Rattle.rules.specs.Lists.{each}
 use borrow.Author.Tests.{leb-true}

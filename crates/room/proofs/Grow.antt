@@ -1,33 +1,14 @@
 -- A larger store is a smaller one with fresh slots behind each subpool; to find and to edit a slot of the smaller commutes with that.
 use Prim.Native.Nat.{_<_, suc, zero, ℕ}
 use Rattle.address.specs.Address.{poolOf, slotOf}
-use Rattle.slots.specs.Pools.{Pool, Slot, find, findAt, findSlot, free}
+use Rattle.room.specs.Grown.{NamedAt, Slotted, grow, shape}
+use Rattle.slots.specs.Pools.{Pool, Slot, find, findAt, findSlot}
 use Rattle.store.specs.Edits.{edit, editAt, editSlot}
 use Rattle.store_laws.proofs.Fitting.{slots-many}
-use lib.ListN.{length, replicate}
+use lib.ListN.{length}
 use mathlib.Core.List.{List, [], _++_, _∷_}
 use mathlib.Core.Path.{_≡_, ap, refl}
 use native.Mathlib.Nat.{le-of-suc-le-suc, not-suc-le-zero}
-
--- how many slots each subpool has
-unfoldable pub shape : List Pool → List ℕ
-shape [] = []
-shape (p ∷ ps) = length (p .slots) ∷ shape ps
-
--- slot i of subpool k is one of so many
-abbrev pub NamedAt : List ℕ → ℕ → ℕ → Type 0
-NamedAt [] k i = ⊥
-NamedAt (n ∷ ns) zero i = i < n
-NamedAt (n ∷ ns) (suc k) i = NamedAt ns k i
-
-unfoldable pub Slotted : List ℕ → ℕ → Type 0
-Slotted ns a = NamedAt ns (poolOf a) (slotOf a)
-
--- so many more slots in each subpool
-unfoldable pub grow : List ℕ → List Pool → List Pool
-grow [] ps = ps
-grow (k ∷ ks) [] = []
-grow (k ∷ ks) (p ∷ ps) = record { size = p .size; slots = p .slots ++ replicate k (free (replicate (p .size) 0)) } ∷ grow ks ps
 
 findSlot-append : (xs ys : List Slot) (i : ℕ) → i < length xs → findSlot (xs ++ ys) i ≡ findSlot xs i
 findSlot-append [] ys i h = absurd (not-suc-le-zero h)

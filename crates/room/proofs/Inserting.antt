@@ -8,11 +8,10 @@ use Rattle.packet.specs.Packet.{readOf, userDataOf}
 use Rattle.packet.specs.declared.Reading.{Reading}
 use Rattle.packet.specs.declared.Reading.the-variants.{Packet, Unreadable}
 use Rattle.room.proofs.Alike.{Alike, answered-too, answers, by-room, by-test, refused-too, refuses}
-use Rattle.room.proofs.Choosing.{Narrow}
 use Rattle.room.proofs.Entries.{insert-slots}
-use Rattle.room.proofs.Grow.{Slotted, grow}
-use Rattle.room.proofs.States.{AlikeStates, Fit, grown}
+use Rattle.room.proofs.States.{AlikeStates}
 use Rattle.room.proofs.StoreCalls.{Placed, adds}
+use Rattle.room.specs.Grown.{Fit, Narrow, Slotted, grow, grown}
 use Rattle.room.specs.Room.{struck}
 use Rattle.rules.specs.Papers.{Outcome, done, through, refused, says}
 use Rattle.schedule.specs.State.{State, withPools}

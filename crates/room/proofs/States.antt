@@ -2,23 +2,13 @@
 use Prim.Native.Nat.{ℕ}
 use Rattle.record.specs.declared.Record.{Record}
 use Rattle.room.proofs.Alike.{Alike, answered-too, answers, refused-too, refuses}
-use Rattle.room.proofs.Entries.{Slots}
-use Rattle.room.proofs.Grow.{grow, shape}
+use Rattle.room.specs.Grown.{Fit, grow, grown, shape}
 use Rattle.rules.specs.Papers.{Outcome, done, through, refused, says}
 use Rattle.schedule.specs.State.{State, withPools}
 use Rattle.scheduler.specs.Steps.{withRecord}
 use Rattle.slots.specs.Pools.{Pool}
 use mathlib.Core.List.{List}
 use mathlib.Core.Path.{_≡_}
-
--- the smaller's: each entry's address names one of its slots
-pub record Fit (ns : List ℕ) (s : State) : Type 0 where
-  pub shaped : shape (s .pools) ≡ ns
-  pub named : Slots ns (s .entries)
-
--- the larger's
-abbrev pub grown : List ℕ → State → State
-grown ks s = withPools (grow ks (s .pools)) s
 
 abbrev pub AlikeStates : List ℕ → List ℕ → Outcome State → Outcome State → Type 0
 AlikeStates ns ks o o′ = Alike (grown ks) (λ vs s. Fit ns s) o o′

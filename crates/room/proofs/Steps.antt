@@ -2,14 +2,13 @@
 use Prim.Native.Nat.{_≤_, ℕ}
 use Rattle.room.proofs.Alike.{Alike, answer-stays, answered-too, refused-too}
 use Rattle.rules.proofs.Cases.{clash}
-use Rattle.room.proofs.Choosing.{Narrow}
 use Rattle.room.proofs.Deleting.{by-id, keeping, resets, windows}
-use Rattle.room.proofs.Grow.{Slotted, edit-grow, grow, shape, shape-edit}
+use Rattle.room.proofs.Grow.{edit-grow, shape-edit}
 use Rattle.room.proofs.Inserting.{stored, unwrapped, wrapped}
-use Rattle.room.proofs.States.{AlikeStates, Fit, answer-too, grown, pools-too, record-too}
+use Rattle.room.proofs.States.{AlikeStates, answer-too, pools-too, record-too}
 use Rattle.room.proofs.StoreCalls.{Placed, adds, deletes, has-grow, here, len-grow, packet-grow, read-grow}
 use Rattle.room.proofs.Ticking.{grown-log, ticks}
-use Rattle.room.specs.Room.{AllNamed, Named, addresses, struck}
+use Rattle.room.specs.Room.{AllNamed, Named, addresses}
 use Rattle.rules.specs.Papers.{Outcome, after, done, through, refused, says}
 use Rattle.schedule.specs.State.{State, recordOf, withPools}
 use Rattle.schedule.specs.declared.Setup.{Setup}
@@ -17,20 +16,15 @@ use Rattle.counting.specs.Counting.{countIn}
 use Rattle.windows.specs.Windowing.{retrieveIn}
 use Rattle.windows.specs.declared.TimeWindow.{TimeWindow}
 use Rattle.record.specs.Record.{clockIn, markIn}
-use Rattle.scheduler.specs.Steps.{Request, Stepped, add, carried, count, delete, deleteById, deleteKeeping, deleteWindow, disable, enable, hasElementAt, insertStored, insertUnwrapped, insertWrapped, lenOfData, looked, modify, read, reset, retrieve, setClock, step, tick, ticked}
+use Rattle.scheduler.specs.Steps.{Request, add, carried, count, delete, deleteById, deleteKeeping, deleteWindow, disable, enable, hasElementAt, insertStored, insertUnwrapped, insertWrapped, lenOfData, looked, modify, read, reset, retrieve, setClock, step, tick, ticked}
 use Rattle.tick.specs.Tick.{Logged}
 use Rattle.lookup.specs.Calls.{packetIn}
+use Rattle.room.specs.Grown.{Fit, Good, Narrow, Slotted, grow, grown, shape}
 use Rattle.store.specs.Edits.{edit, rewrite}
 use lib.ListN.{length}
 use mathlib.Core.Bool.{false, true}
 use mathlib.Core.List.{List}
 use mathlib.Core.Path.{_∙_, _≡_, refl}
-
--- x on the smaller, which was at s, and x′ on the larger
-pub record Good (ns ks : List ℕ) (s : State) (x x′ : Stepped) : Type 0 where
-  pub alike : struck (x .answer .paper) ≡ false → x′ ≡ record { answer = x .answer; state = grown ks (x .state) }
-  pub still : struck (x .answer .paper) ≡ true → x .state ≡ s
-  pub fit : Fit ns (x .state)
 
 -- the entries alone are looked at
 counts : (ks : List ℕ) (s : State) → countIn (grown ks s) ≡ countIn s

@@ -1,8 +1,8 @@
 -- The store's calls on the smaller store and on the larger.
 use Prim.Native.Nat.{_≤_, ℕ}
 use Rattle.room.proofs.Alike.{Alike, Left, answers, refuses, strikes}
-use Rattle.room.proofs.Choosing.{Narrow, choose-grow, isFull, slotted, vacant-named}
-use Rattle.room.proofs.Grow.{Slotted, edit-grow, editAt-grow, find-grow, grow, shape, shape-edit, shape-editAt}
+use Rattle.room.proofs.Choosing.{choose-grow, isFull, slotted, vacant-named}
+use Rattle.room.proofs.Grow.{edit-grow, editAt-grow, find-grow, shape-edit, shape-editAt}
 use Rattle.room.specs.Room.{struck}
 use Rattle.rules.specs.Papers.{done, through}
 use Rattle.store.proofs.Chosen.{Open, choose-open}
@@ -10,6 +10,7 @@ use Rattle.store.specs.Calls.{addIn, deleteIn, place}
 use Rattle.lookup.specs.Calls.{ifHeld, ifNamed, packetIn}
 use Rattle.presence.specs.Presence.{hasIn, lenIn}
 use Rattle.reading.specs.Reading.{readIn}
+use Rattle.room.specs.Grown.{Narrow, Slotted, grow, shape}
 use Rattle.slots.specs.Pools.{Choice, Found, Pool, allTaken, find, held, noPool, noSlot, tooLarge, vacant}
 use Rattle.store.specs.Edits.{edit, fill, wipe}
 use Rattle.slots.specs.Pools as P

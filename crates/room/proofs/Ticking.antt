@@ -1,10 +1,10 @@
 -- The tick on the smaller scheduler and on the larger.
 use Prim.Native.Nat.{ℕ}
 use Rattle.room.proofs.Alike.{Alike, answers, by-test, refuses}
-use Rattle.room.proofs.Entries.{Slots, drop-slots}
-use Rattle.room.proofs.Grow.{Slotted, edit-grow, grow, shape, shape-edit}
-use Rattle.room.proofs.States.{Fit, grown}
+use Rattle.room.proofs.Entries.{drop-slots}
+use Rattle.room.proofs.Grow.{edit-grow, shape-edit}
 use Rattle.room.proofs.StoreCalls.{found, here}
+use Rattle.room.specs.Grown.{Fit, Slots, Slotted, grow, grown, shape}
 use Rattle.schedule.specs.State.{State}
 use Rattle.slots.specs.Pools.{Pool, find}
 use Rattle.store.specs.Edits.{edit, wipe}
@@ -13,8 +13,9 @@ use Rattle.tick.specs.Tick.{Logged, firstLacks, handedOut, tickIn, usable}
 use Rattle.time.specs.Time.{instant}
 use Rattle.turns.specs.Released.{firstTotal}
 use Rattle.turn.specs.Turns.{Handout, always, handout, leave}
-use Rattle.turns_laws.proofs.Follows.{SameButPools, follows}
+use Rattle.turns_laws.proofs.Follows.{follows}
 use Rattle.turns_laws.proofs.Split.{splits}
+use Rattle.turns_laws.specs.Laws.{SameButPools}
 use lib.ListN.{length}
 use mathlib.Core.Bool.{Bool, false, true}
 use mathlib.Core.List.{List, [], _∷_}

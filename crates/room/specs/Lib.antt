@@ -1,4 +1,5 @@
 -- Demand 3: room never changes an answer.
 pub mod Room
+pub mod Grown
 pub mod FreeSlot
 pub mod Spilling

@@ -1,22 +1,16 @@
 -- Demand 1 over steps; and that a request to a state whose clock and margin are in range is answered none of 1 to 3.
-use Prim.Native.Nat.{_≤_, ℕ}
 use Rattle.record.specs.Record.{timesInRange}
 use Rattle.rules.proofs.Order.{refusal-keeps}
 use Rattle.rules.specs.Papers.{Outcome, says}
 use Rattle.schedule.specs.State.{State, recordOf}
 use Rattle.schedule.specs.declared.Setup.{Setup}
 use Rattle.scheduler.proofs.Numbers.{Numbered, clock-numbered, through-numbered, mark-numbered, own-add, own-by-id, own-count, own-delete, own-has, own-keeping, own-len, own-numbered, own-packet, own-read, own-reset, own-retrieve, own-stored, own-tick, own-unwrapped, own-window, own-wrapped}
-use Rattle.scheduler.specs.Laws.{AnsweredOrRefused, EveryStepAnswers}
-use Rattle.scheduler.specs.Steps.{Request, Stepped, add, bufferOf, carried, count, delete, deleteById, deleteKeeping, deleteWindow, disable, enable, hasElementAt, insertStored, insertUnwrapped, insertWrapped, lenOfData, looked, modify, read, reset, retrieve, setClock, step, tick, ticked}
+use Rattle.scheduler.specs.Laws.{EveryStepAnswers, Told}
+use Rattle.scheduler.specs.Steps.{Request, add, bufferOf, carried, count, delete, deleteById, deleteKeeping, deleteWindow, disable, enable, hasElementAt, insertStored, insertUnwrapped, insertWrapped, lenOfData, looked, modify, read, reset, retrieve, setClock, step, tick, ticked}
 use Rattle.tick.specs.Tick.{Logged}
 use mathlib.Core.Bool.{Bool, true}
-use mathlib.Core.List.{List, []}
-use mathlib.Core.Path.{_≡_, refl}
-
--- x is what a request that lends a buffer made of s
-pub record Told (fine : Bool) (lent : List ℕ) (s : State) (x : Stepped) : Type 0 where
-  pub demand : AnsweredOrRefused lent (x .answer) s (x .state)
-  pub undamaged : fine ≡ true → (n : ℕ) → 1 ≤ n → n ≤ 3 → x .answer .paper .number ≡ n → ⊥
+use mathlib.Core.List.{[]}
+use mathlib.Core.Path.{refl}
 
 module _ (fine : Bool) (s : State) where
   carries : (o : Outcome State) → Numbered fine (says o) → Told fine [] s (carried s o)
@@ -35,7 +29,7 @@ module _ (su : Setup) (s : State) where
   abbrev fine : Bool
   fine = timesInRange (recordOf s)
 
-  pub told : (q : Request) → Told fine (bufferOf q) s (step su q s)
+  pub told : (q : Request) → Told (timesInRange (recordOf s)) (bufferOf q) s (step su q s)
   unfolding step bufferOf looked ticked
   told (add d) = carries fine s _ (through-numbered fine _ _ (own-numbered fine _ (own-add (su .store .spill) (s .pools) d)))
   told (read a buf) =

@@ -1,5 +1,5 @@
 -- Repeated ticks as requests: with limit k at least 1, nothing between them and room for k records of the largest slot size, no tick is
--- refused, and within d / k of them, rounded rounded-up, all d due entries are handed out.
+-- refused, and within d / k of them, rounded up, all d due entries are handed out.
 -- Whatever their number, the entries handed out are the first due ones, in schedule order, and no other.
 use Prim.Native.Nat.{_*_, _+_, _-_, _≤_, min, suc, zero, ℕ}
 use Rattle.handing.specs.Handing.{afterAll}
@@ -22,9 +22,9 @@ use Rattle.turns.specs.Released.{firstTotal}
 use Rattle.turn.specs.Turns.{Handout, always, handout, leave}
 use Rattle.turns_laws.proofs.Drains.{after-append, one-hands, rounded-up, short-handout}
 use Rattle.turns_laws.proofs.Due.{below-drop}
-use Rattle.turns_laws.proofs.Packets.{Short, short-need, sound-short}
+use Rattle.turns_laws.proofs.Packets.{short-need, sound-short}
 use Rattle.turns_laws.proofs.Split.{splits}
-use Rattle.turns_laws.specs.Draining.{largestSlot, roomFor, roundedUp}
+use Rattle.turns_laws.specs.Draining.{Short, largestSlot, roomFor, roundedUp}
 use Rattle.turns_laws.specs.Due.{due}
 use Rattle.turns_laws.specs.Laws.{Splits}
 use lib.ListN.{drop, length, take}

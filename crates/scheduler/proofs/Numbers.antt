@@ -27,6 +27,7 @@ use Rattle.store.specs.Calls.{addIn, deleteIn, place}
 use Rattle.lookup.specs.Calls.{ifHeld, ifNamed, packetIn}
 use Rattle.presence.specs.Presence.{hasIn, lenIn}
 use Rattle.reading.specs.Reading.{readIn}
+use Rattle.scheduler.specs.Laws.{Own}
 use Rattle.slots.specs.Pools.{Choice, Found, Pool, allTaken, choose, find, held, into as inSlot, noPool, noSlot, tooLarge, vacant}
 use Rattle.selection.specs.declared.MomentWindow.{MomentWindow}
 use Rattle.tick.specs.Tick.{handedOut, tickIn}
@@ -36,10 +37,6 @@ use mathlib.Core.Bool.{Bool, false, true}
 use mathlib.Core.List.{List, []}
 use mathlib.Core.Path.{_≡_, refl}
 use native.Mathlib.Omega.{arith}
-
-abbrev pub Own : {A : Type 0} → Outcome A → Type 0
-Own (refused p) = (4 ≤ p .number) × (p .number ≤ 20)
-Own (done vs x) = Unit {0}
 
 pub own-most : {A : Type 0} (o : Outcome A) → Own o → says o .number ≤ 20
 unfolding says

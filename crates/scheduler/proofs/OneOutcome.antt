@@ -24,8 +24,9 @@ use Rattle.schedule.specs.State.{State}
 use Rattle.counting.specs.declared.Counted.the-variants as Co
 use Rattle.schedule.specs.declared.Setup.{Setup}
 use Rattle.schedule.specs.declared.Verdict.the-variants as Ve
-use Rattle.scheduler.proofs.OneToOne.{OneToOne, one-cleared, one-counted, one-done, one-freed, one-inserted, one-retrieved, one-taken, one-verdict}
+use Rattle.scheduler.proofs.OneToOne.{one-cleared, one-counted, one-done, one-freed, one-inserted, one-retrieved, one-taken, one-verdict}
 use Rattle.scheduler.specs.Laws.{Same}
+use Rattle.scheduler.specs.OneOutcome.{OneAnswer, OneSaid, OneToOne}
 use Rattle.scheduler.specs.Words.{CarriesWords}
 use mathlib.Core.List.{List}
 use mathlib.Core.Path.{_∙_, _≡_, sym}
@@ -52,48 +53,39 @@ module _ (su : Setup) (r : Record) (st le ro : List ℕ) (p q : Paper) (r₁ r�
   one-judged call s d e =
       one-outcome (judging su r st le ro call) (writes su r st le ro call p r₁ st₁ le₁ ro₁ s d) (writes su r st le ro call q r₂ st₂ le₂ ro₂ s e)
 
--- and by the answers themselves, whose refusals carry words; k rows held entries
-module _ (su : Setup) (r : Record) (st le ro : List ℕ) (k : ℕ) (o : Outcome State) (r₁ r₂ : Record) (st₁ le₁ ro₁ st₂ le₂ ro₂ : List ℕ) where
-  abbrev OneAnswer : {A : Type 0} → (A → Paper) → (ScheduleRefusal → A) → Type 0
-  OneAnswer {A} told refusal =
-      (a b : A) → CarriesWords refusal a → CarriesWords refusal b → WritesOver k su r st le ro o (told a) r₁ st₁ le₁ ro₁
-      → WritesOver k su r st le ro o (told b) r₂ st₂ le₂ ro₂ → (a ≡ b) × Same r₂ r₁ st₂ st₁ le₂ le₁ ro₂ ro₁
+-- and by the answers themselves
+by-answer : {A : Type 0} (told : A → Paper) (refusal : ScheduleRefusal → A) → OneToOne told refusal → OneAnswer told refusal
+by-answer told refusal one su r st le ro k o r₁ r₂ st₁ le₁ ro₁ st₂ le₂ ro₂ a b i j w v =
+    let e = one-outcome su r st le ro (told a) (told b) r₁ r₂ st₁ le₁ ro₁ st₂ le₂ ro₂ o w v in (one a b i j (e .0), e .1)
 
-  by-answer : {A : Type 0} (told : A → Paper) (refusal : ScheduleRefusal → A) → OneToOne told refusal → OneAnswer told refusal
-  by-answer told refusal one a b i j w v =
-      let e = one-outcome su r st le ro (told a) (told b) r₁ r₂ st₁ le₁ ro₁ st₂ le₂ ro₂ o w v in (one a b i j (e .0), e .1)
+-- a stored insertion, and the fresh start
+pub one-stored : OneAnswer donePaper D.Refused
+one-stored = by-answer donePaper D.Refused one-done
 
-  -- a stored insertion, and the fresh start
-  pub one-stored : OneAnswer donePaper D.Refused
-  one-stored = by-answer donePaper D.Refused one-done
+-- the other insertions
+pub one-insert : OneAnswer insertedPaper I.Refused
+one-insert = by-answer insertedPaper I.Refused one-inserted
 
-  -- the other insertions
-  pub one-insert : OneAnswer insertedPaper I.Refused
-  one-insert = by-answer insertedPaper I.Refused one-inserted
+-- window deletion and `reset`
+pub one-clear : OneAnswer clearedPaper Cl.Refused
+one-clear = by-answer clearedPaper Cl.Refused one-cleared
 
-  -- window deletion and `reset`
-  pub one-clear : OneAnswer clearedPaper Cl.Refused
-  one-clear = by-answer clearedPaper Cl.Refused one-cleared
+-- the deletions by request ID
+pub one-take : OneAnswer takenPaper Ta.Refused
+one-take = by-answer takenPaper Ta.Refused one-taken
 
-  -- the deletions by request ID
-  pub one-take : OneAnswer takenPaper Ta.Refused
-  one-take = by-answer takenPaper Ta.Refused one-taken
-
-  pub one-free : OneAnswer freedPaper F.Refused
-  one-free = by-answer freedPaper F.Refused one-freed
+pub one-free : OneAnswer freedPaper F.Refused
+one-free = by-answer freedPaper F.Refused one-freed
 
 -- the calls that only look: count, retrieval, judging
 module _ {A : Type 0} (o : Outcome A) where
-  abbrev OneSaid : {B : Type 0} → (B → Paper) → (ScheduleRefusal → B) → Type 0
-  OneSaid {B} told refusal = (a b : B) → CarriesWords refusal a → CarriesWords refusal b → told a ≡ says o → told b ≡ says o → a ≡ b
-
-  pub one-count : OneSaid countedPaper Co.Refused
+  pub one-count : OneSaid o countedPaper Co.Refused
   one-count a b i j w v = one-counted a b i j (w ∙ sym v)
 
-  pub one-retrieval : OneSaid retrievedPaper R.Refused
+  pub one-retrieval : OneSaid o retrievedPaper R.Refused
   one-retrieval a b i j w v = one-retrieved a b i j (w ∙ sym v)
 
-  pub one-judge : OneSaid verdictPaper Ve.Refused
+  pub one-judge : OneSaid o verdictPaper Ve.Refused
   one-judge a b i j w v = one-verdict a b i j (w ∙ sym v)
 
 -- setting the clock, enable, disable, in place or by value

@@ -20,6 +20,7 @@ use Rattle.schedule.specs.Answers.{verdictPaper}
 use Rattle.counting.specs.declared.Counted.the-variants as Co
 use Rattle.schedule.specs.declared.Verdict.the-variants as Ve
 use Rattle.scheduler.proofs.Back.{back, cleared-back, clearedOf, counted-back, countedOf, done-back, doneOf, freed-back, freedOf, inserted-back, insertedOf, retrieved-back, retrievedOf, taken-back, takenOf, there-and-back, ticked-back, tickedOf, verdict-back, verdictOf}
+use Rattle.scheduler.specs.OneOutcome.{OneToOne}
 use Rattle.scheduler.specs.Words.{CarriesWords, Words}
 use Rattle.tick.specs.declared.TickAnswer.the-variants as T
 use mathlib.Core.List.{List}
@@ -27,10 +28,6 @@ use mathlib.Core.Path.{_∙_, _≡_, ap, sym}
 
 pub one-refusal : (e d : ScheduleRefusal) → Words e → Words d → paper e ≡ paper d → e ≡ d
 one-refusal e d w v q = sym (there-and-back e w) ∙ ap back q ∙ there-and-back d v
-
--- two answers of one number and values are equal, where the refusals in them carry words
-abbrev pub OneToOne : {A : Type 0} → (A → Paper) → (ScheduleRefusal → A) → Type 0
-OneToOne {A} told refusal = (a b : A) → CarriesWords refusal a → CarriesWords refusal b → told a ≡ told b → a ≡ b
 
 one-by : {A : Type 0} (told : A → Paper) (refusal : ScheduleRefusal → A) (answer : List ℕ → A)
     → ((a : A) → CarriesWords refusal a → answerOf back answer refusal (told a) ≡ a) → OneToOne told refusal

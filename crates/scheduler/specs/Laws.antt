@@ -4,11 +4,11 @@ use Prim.Native.Nat.{_≤_, ℕ}
 use Rattle.handing.specs.Handing.{afterAll}
 use Rattle.record.specs.declared.Record.{Record}
 use Rattle.rows.specs.Entries.{Entry, time}
-use Rattle.rules.specs.Papers.{Paper}
+use Rattle.rules.specs.Papers.{Outcome, Paper, done, refused}
 use Rattle.schedule.specs.Judge.{Sound}
 use Rattle.schedule.specs.State.{State, stateOf, withEntries, withPools}
 use Rattle.schedule.specs.declared.Setup.{Setup}
-use Rattle.scheduler.specs.Steps.{Answer, Request, bufferOf, step, tick}
+use Rattle.scheduler.specs.Steps.{Answer, Request, Stepped, bufferOf, step, tick}
 use Rattle.selection.specs.Windows.{filter}
 use Rattle.tick.specs.Tick.{usable}
 use Rattle.time.specs.Time.{instant}
@@ -16,7 +16,7 @@ use Rattle.turn.specs.Turns.{leave}
 use Rattle.turns_laws.specs.Draining.{roomFor}
 use lib.Dec.{leb}
 use lib.ListN.{drop, take}
-use mathlib.Core.Bool.{Bool, not}
+use mathlib.Core.Bool.{Bool, not, true}
 use mathlib.Core.List.{List, [], _∷_}
 use mathlib.Core.Path.{_≡_}
 
@@ -30,6 +30,16 @@ pub record AnsweredOrRefused {A : Type 0} (lent : List ℕ) (x : Answer) (there 
 unfoldable pub EveryStepAnswers : Type 0
 EveryStepAnswers =
     (su : Setup) (q : Request) (s : State) → AnsweredOrRefused (bufferOf q) (step su q s .answer) s (step su q s .state)
+
+-- the numbers that a call gives of its own, beside 1 to 3 that are judged first
+abbrev pub Own : {A : Type 0} → Outcome A → Type 0
+Own (refused p) = (4 ≤ p .number) × (p .number ≤ 20)
+Own (done vs x) = Unit {0}
+
+-- x is what a request that lends a buffer made of s; and none of 1 to 3 where what is judged first was fine
+pub record Told (fine : Bool) (lent : List ℕ) (s : State) (x : Stepped) : Type 0 where
+  pub demand : AnsweredOrRefused lent (x .answer) s (x .state)
+  pub undamaged : fine ≡ true → (n : ℕ) → 1 ≤ n → n ≤ 3 → x .answer .paper .number ≡ n → ⊥
 
 -- record, store, length table and rows, the second of each pair as the first
 pub record Same (r r′ : Record) (st st′ le le′ ro ro′ : List ℕ) : Type 0 where

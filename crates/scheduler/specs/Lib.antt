@@ -3,3 +3,4 @@ pub mod Steps
 pub mod Fits
 pub mod Words
 pub mod Laws
+pub mod OneOutcome

@@ -12,10 +12,10 @@ use Rattle.rows.specs.Entries.{Entry}
 use Rattle.rows.specs.Order.{ordered}
 use Rattle.turn.specs.Turns.{Handout, handed, handout, leave, need}
 use Rattle.turns_laws.proofs.Due.{below-drop, due-is}
-use Rattle.turns_laws.proofs.Packets.{Short, short-leave, short-need, sound-short}
+use Rattle.turns_laws.proofs.Packets.{short-leave, short-need, sound-short}
 use Rattle.rules.proofs.Cases.{either}
 use Rattle.turns_laws.proofs.Split.{left-due, many, splits}
-use Rattle.turns_laws.specs.Draining.{drained, followedBy, largestSlot, roomFor, roundedUp}
+use Rattle.turns_laws.specs.Draining.{Short, drained, followedBy, largestSlot, roomFor, roundedUp}
 use Rattle.turns_laws.specs.Due.{due, dueCount}
 use Rattle.handing.specs.Handing.{afterAll, turns}
 use Rattle.turns_laws.specs.Laws.{Splits}
@@ -126,7 +126,8 @@ module _ (big : ℕ) (del : Bool) (on : Entry → Bool) (ck k cap : ℕ) (room :
     drain-due = rw (drain-splits n es ps s .left-is) (below-drop (ck + 1) (min (n * k) (due ck es)) es (omega arith) ∙ omega arith)
 
     -- the tick after n ticks hands out as many of what is left as the limit allows
-    pub each-hands : length (handout (leave del) on ck k 8 cap (after-n .left) (after-n .pools) .records) ≡ min k (due ck (after-n .left))
+    pub each-hands : let h : Handout = drained (leave del) on ck k cap n es ps in
+        length (handout (leave del) on ck k 8 cap (h .left) (h .pools) .records) ≡ min k (due ck (h .left))
     each-hands = one-hands (after-n .left) (after-n .pools) (drain-short n es ps s)
 
     -- d due entries are handed out within d / k ticks, rounded up

@@ -4,20 +4,10 @@ use Rattle.rules.specs.Tests.{unless}
 use Rattle.slots.specs.Pools.{Pool, find}
 use Rattle.rows.specs.Entries.{Entry}
 use Rattle.turn.specs.Turns.{Handout, goesOut, handed, handout, need, put, stop}
+use Rattle.turns_laws.specs.Laws.{Addresses, SameButPools}
 use mathlib.Core.Bool.{Bool, false, true}
 use mathlib.Core.List.{List, [], _∷_}
 use mathlib.Core.Path.{_≡_, ap, refl}
-
--- two handouts of the same records and entries, whose stores stand in a relation
-pub record SameButPools (R : List Pool → List Pool → Type 0) (g h : Handout) : Type 0 where
-  pub records-same : g .records ≡ h .records
-  pub left-same : g .left ≡ h .left
-  pub pools-related : R (g .pools) (h .pools)
-
--- P holds of each entry's address
-abbrev pub Addresses : (ℕ → Type 0) → List Entry → Type 0
-Addresses P [] = Unit {0}
-Addresses P (e ∷ es) = P (e .addr) × Addresses P es
 
 -- The relation has both stores find the same at the addresses of P, and a turn there keeps it.
 module _

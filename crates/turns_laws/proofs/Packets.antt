@@ -11,7 +11,7 @@ use Rattle.slots.specs.Pools.{Pool, Slot, find, findAt, findSlot, free, taken}
 use Rattle.store.specs.Edits.{editAt, editSlot, wipe}
 use Rattle.slots.specs.View.{bytesAt, view}
 use Rattle.turn.specs.Turns.{leave, need, packetOf}
-use Rattle.turns_laws.specs.Draining.{largestSlot}
+use Rattle.turns_laws.specs.Draining.{Short, largestSlot}
 use borrow.Author.Tests.{eqb-false, eqb-true}
 use lib.Dec.{eqb}
 use lib.ListN.{getD, length, length-take}
@@ -21,10 +21,6 @@ use mathlib.Core.Logic.{⊎-elim}
 use mathlib.Core.Path.{_≡_, refl}
 use native.Mathlib.Omega.{arith}
 use Rattle.layout.specs.declared.Setup.{Setup}
-
--- no packet is longer than big
-unfoldable pub Short : ℕ → List Pool → Type 0
-Short big ps = (k i : ℕ) → length (packetOf (findAt ps k i)) ≤ big
 
 wipe-slot : (xs : List Slot) (i j : ℕ) → length (packetOf (findSlot (editSlot wipe xs j) i)) ≤ length (packetOf (findSlot xs i))
 wipe-slot [] i j = omega arith

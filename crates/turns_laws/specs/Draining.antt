@@ -1,10 +1,11 @@
 -- Repeated ticks with nothing between them, and the room that they need.
-use Prim.Native.Nat.{_*_, _+_, _-_, _/_, suc, zero, ℕ}
+use Prim.Native.Nat.{_*_, _+_, _-_, _/_, _≤_, suc, zero, ℕ}
 use Rattle.layout.specs.Layout.{sizeAt}
-use Rattle.slots.specs.Pools.{Pool}
+use Rattle.slots.specs.Pools.{Pool, findAt}
 use Rattle.layout.specs.declared.Setup.{Setup}
 use Rattle.rows.specs.Entries.{Entry}
-use Rattle.turn.specs.Turns.{Handout, handout, stop}
+use Rattle.turn.specs.Turns.{Handout, handout, packetOf, stop}
+use lib.ListN.{length}
 use mathlib.Core.Bool.{Bool}
 use mathlib.Core.List.{List, _++_}
 
@@ -30,3 +31,7 @@ largestSlot su = sizeAt su (su .pools - 1)
 -- room for k records with packets of `big` bytes: the log's count and total, and for each record its offset and itself
 abbrev pub roomFor : ℕ → ℕ → ℕ
 roomFor k big = 8 + k * (21 + big)
+
+-- no packet is longer than big
+unfoldable pub Short : ℕ → List Pool → Type 0
+Short big ps = (k i : ℕ) → length (packetOf (findAt ps k i)) ≤ big

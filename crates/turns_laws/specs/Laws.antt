@@ -29,3 +29,14 @@ pub record Largest (after : List Pool → ℕ → List Pool) (on : Entry → Boo
 abbrev pub WordsIn : List Entry → Type 0
 WordsIn [] = Unit {0}
 WordsIn (e ∷ es) = (e .id < 2 ^ 64) × (e .addr < 2 ^ 64) × WordsIn es
+
+-- two handouts of the same records and entries, whose stores stand in a relation
+pub record SameButPools (R : List Pool → List Pool → Type 0) (g h : Handout) : Type 0 where
+  pub records-same : g .records ≡ h .records
+  pub left-same : g .left ≡ h .left
+  pub pools-related : R (g .pools) (h .pools)
+
+-- P holds of each entry's address
+abbrev pub Addresses : (ℕ → Type 0) → List Entry → Type 0
+Addresses P [] = Unit {0}
+Addresses P (e ∷ es) = P (e .addr) × Addresses P es
