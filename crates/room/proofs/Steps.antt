@@ -4,12 +4,12 @@ use Rattle.room.proofs.Alike.{Alike, answer-stays, answered-too, refuse
 use Rattle.rules.proofs.Cases.{clash}
 use Rattle.room.proofs.Deleting.{by-id, keeping, resets, windows}
 use Rattle.room.proofs.Inserting.{stored, unwrapped, wrapped}
-use Rattle.room.proofs.States.{AlikeStates, answer-too, pools-too, record-too}
+use Rattle.room.proofs.States.{AlikeStates, pools-too, record-too}
 use Rattle.room.proofs.StoreCalls.{Placed, adds, deletes, has-grow, len-grow, modifies, read-grow}
 use Rattle.room.proofs.Ticking.{grown-log, ticks}
 use Rattle.room.specs.Room.{AllNamed, Named, addresses}
-use Rattle.rules.specs.Papers.{Outcome, after, done, through, refused, says}
-use Rattle.schedule.specs.State.{State, recordOf, withPools}
+use Rattle.rules.specs.Papers.{Outcome, after, done, refused, says}
+use Rattle.schedule.specs.State.{State, recordOf}
 use Rattle.schedule.specs.declared.Setup.{Setup}
 use Rattle.counting.specs.Counting.{countIn}
 use Rattle.windows.specs.Windowing.{retrieveIn}
@@ -17,11 +17,11 @@ use Rattle.windows.specs.declared.TimeWindow.{TimeWindow}
 use Rattle.record.specs.Record.{clockIn, markIn}
 use Rattle.scheduler.specs.Steps.{Request, add, carried, count, delete, deleteById, deleteKeeping, deleteWindow, disable, enable, hasElementAt, insertStored, insertUnwrapped, insertWrapped, lenOfData, looked, modify, read, reset, retrieve, setClock, step, tick, ticked}
 use Rattle.tick.specs.Tick.{Logged}
-use Rattle.room.specs.Grown.{Fit, Good, Narrow, Slotted, grow, grown, shape}
+use Rattle.room.specs.Grown.{Fit, Good, Narrow, Slotted, grown, shape}
 use lib.ListN.{length}
 use mathlib.Core.Bool.{false, true}
 use mathlib.Core.List.{List}
-use mathlib.Core.Path.{_∙_, _≡_, refl}
+use mathlib.Core.Path.{_≡_, refl}
 
 -- the entries alone are looked at
 counts : (ks : List ℕ) (s : State) → countIn (grown ks s) ≡ countIn s

@@ -9,7 +9,7 @@ use Rattle.lookup.proofs.Finding.{finds-at, held-by}
 use Rattle.lookup.proofs.Packets.{held-inside, packet-there}
 use Rattle.lookup.specs.Calls.{ifHeld, ifNamed, packetIn}
 use Rattle.lookup.specs.Promise.{foundAs, packetStart}
-use Rattle.rules.specs.Papers.{Outcome, Paper, done, no, refused}
+use Rattle.rules.specs.Papers.{Paper, done, no, refused}
 use Rattle.slots.proofs.Lists.{part-length}
 use Rattle.slots.specs.Inside.{cellOf}
 use Rattle.slots.specs.Pools.{Found, Pool, find, held, noPool, noSlot, over, vacant}
@@ -21,7 +21,7 @@ use Rattle.store.specs.Edits.{edit, rewrite}
 use Rattle.store.specs.Promise.{Does}
 use lib.ListN.{getD, length, take}
 use mathlib.Core.List.{List, [], _∷_}
-use mathlib.Core.Path.{_∙_, _≡_, ap, refl, subst, sym}
+use mathlib.Core.Path.{_∙_, _≡_, ap, subst, sym}
 use native.Mathlib.Omega.{arith}
 
 refused-by : (a : ℕ) (x : Found) (p : Paper) (ps : List Pool) → ifHeld a x (λ n b. done (n ∷ []) (take n b)) ≡ refused p

@@ -17,7 +17,7 @@ use Rattle.layout.specs.declared.Setup.{Setup}
 unfoldable pub deleteIn : List Pool → ℕ → Outcome (List Pool)
 deleteIn ps a = ifHeld a (find ps a) (λ n b. done [] (edit wipe ps a))
 
--- modify: what is written through it is part of the request. The packet's length is answered, and ys goes over the packet's bytes
+-- modify: what is written through it, ys, is part of the request. It answers the packet's length, and ys goes over the packet's bytes
 unfoldable pub modifyIn : List Pool → ℕ → List ℕ → Outcome (List Pool)
 modifyIn ps a ys = ifHeld a (find ps a) (λ n b. done (n ∷ []) (edit (rewrite ys) ps a))
 

@@ -29,8 +29,8 @@ abbrev pub fill : List ℕ → Slot → Slot
 fill d (free b) = taken (length d) (over d b)
 fill d (taken n b) = taken n b
 
--- what is written through `modify` replaces the packet's bytes, from their start on and no further than they go: of more than the packet's
--- length the rest is left out, and where less is written the packet's other bytes stay. Its length stays
+-- what is written through `modify` replaces the packet's bytes, from their start on and no further than they go; where less is written, the
+-- rest stays. The packet's length stays, and so does what its slot holds after it
 abbrev pub rewrite : List ℕ → Slot → Slot
 rewrite d (free b) = free b
 rewrite d (taken n b) = taken n (over (take n d) b)

@@ -11,9 +11,7 @@ use Rattle.store.specs.Refusals.{startedPaper}
 use Rattle.slots.specs.View.{Leaves, view}
 use Rattle.store_laws.proofs.Fitting.{add-fits, delete-fits, fresh-fits, modify-fits, sound-of, view-fits}
 use Rattle.store_laws.proofs.Reached.{add-done, delete-done, fresh-made, modify-done, sized-of}
-use lib.ListN.{length}
 use mathlib.Core.List.{List}
-use mathlib.Core.Path.{_≡_}
 use Rattle.layout.specs.declared.Setup.{Setup}
 use Rattle.store.specs.declared.Started.the-variants as St
 
