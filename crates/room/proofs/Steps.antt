@@ -66,7 +66,8 @@ module _ (ns ks : List ℕ) (s : State) (fits : Fit ns s) where
         (pools-too ns ks s fits (Placed ns) (λ vs ps e. e .0) _ _ (adds ns ks (s .pools) (fits .shaped) narrow few d _ _ off))
     steps (read a buf) n = reads _ _ buf (read-grow ns ks (s .pools) (fits .shaped) a (named a (n .0)) buf)
     steps (modify a d) n =
-        carries _ _ (pools-too ns ks s fits (λ vs ps. shape ps ≡ ns) (λ vs ps e. e) _ _ (modifies ns ks (s .pools) (fits .shaped) a (named a (n .0)) d))
+        carries _ _
+        (pools-too ns ks s fits (λ vs ps. shape ps ≡ ns) (λ vs ps e. e) _ _ (modifies ns ks (s .pools) (fits .shaped) a (named a (n .0)) d))
     steps (delete a) n =
         carries _ _ (pools-too ns ks s fits (λ vs ps. shape ps ≡ ns) (λ vs ps e. e) _ _ (deletes ns ks (s .pools) (fits .shaped) a (named a (n .0))))
     steps (hasElementAt a) n = looks _ _ _ _ (has-grow ns ks (s .pools) (fits .shaped) a (named a (n .0))) refl

@@ -59,21 +59,27 @@ module _ (ns ks : List ℕ) (ps : List Pool) (shaped : shape ps ≡ ns) where
       shape-by vacant qs e = tt
       shape-by (held n b) qs e = e
 
-      edits : Alike (grow ks) (λ vs rs. shape rs ≡ ns) (ifHeld a (find ps a) (λ n b. done (vs n) (edit f ps a)))
-          (ifHeld a (find (grow ks ps) a) (λ n b. done (vs n) (edit f (grow ks ps) a)))
-      edits =
-          record {
-            same = λ h. rw (found, edit-grow f ks ps a here) (edit-by (find ps a) (edit f ps a));
-            left = shape-by (find ps a) (edit f ps a) (shape-edit f ps a ∙ shaped);
-          }
+      edited-grow : ifHeld a (find (grow ks ps) a) (λ n b. done (vs n) (edit f (grow ks ps) a))
+          ≡ through (grow ks) (ifHeld a (find ps a) (λ n b. done (vs n) (edit f ps a)))
+      edited-grow = rw (found, edit-grow f ks ps a here) (edit-by (find ps a) (edit f ps a))
+
+      edited-shape : Left (λ vs rs. shape rs ≡ ns) (ifHeld a (find ps a) (λ n b. done (vs n) (edit f ps a)))
+      edited-shape = shape-by (find ps a) (edit f ps a) (shape-edit f ps a ∙ shaped)
+
+    pub delete-grow : deleteIn (grow ks ps) a ≡ through (grow ks) (deleteIn ps a)
+    unfolding deleteIn
+    delete-grow = edited-grow wipe (λ n. [])
+
+    pub delete-shape : Left (λ vs rs. shape rs ≡ ns) (deleteIn ps a)
+    unfolding deleteIn
+    delete-shape = edited-shape wipe (λ n. [])
 
     pub deletes : Alike (grow ks) (λ vs rs. shape rs ≡ ns) (deleteIn ps a) (deleteIn (grow ks ps) a)
-    unfolding deleteIn
-    deletes = edits wipe (λ n. [])
+    deletes = record { same = λ h. delete-grow; left = delete-shape }
 
     pub modifies : (ys : List ℕ) → Alike (grow ks) (λ vs rs. shape rs ≡ ns) (modifyIn ps a ys) (modifyIn (grow ks ps) a ys)
     unfolding modifyIn
-    modifies ys = edits (rewrite ys) (λ n. n ∷ [])
+    modifies ys = record { same = λ h. edited-grow (rewrite ys) (λ n. n ∷ []); left = edited-shape (rewrite ys) (λ n. n ∷ []) }
 
   module _ (narrow : Narrow ns) (few : length ns ≤ 256) where
     places : (d : List ℕ) (x x′ : Choice) → (isFull x ≡ false → x′ ≡ x) → Open ps (length d) x
