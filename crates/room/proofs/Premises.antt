@@ -1,4 +1,5 @@
 -- The premises of demand 3 are met by all that their words allow.
+use Rattle.address.specs.Address.{addressOf, poolOf, slotOf}
 use Rattle.layout.proofs.Bounds.{setup-pool}
 use Rattle.layout.proofs.Layouts.{setup-few}
 use Rattle.room.specs.Premises.{MoreIsRoomier, NamesItsOwn, OwnNamed, SlotsAreNamed, SpillAsTheyDo}
@@ -6,7 +7,7 @@ use Rattle.room.specs.Room.{AllNamed, addresses}
 use Rattle.schedule.proofs.Facts.{setup-facts}
 use Rattle.schedule.specs.declared.Setup.{Setup}
 use Rattle.scheduler.specs.Steps.{Request, add, count, delete, deleteById, deleteKeeping, deleteWindow, disable, enable, hasElementAt, insertStored, insertUnwrapped, insertWrapped, lenOfData, modify, read, reset, retrieve, setClock, tick}
-use mathlib.Core.Path.{refl}
+use mathlib.Core.Path.{_≡_, refl}
 use native.Mathlib.Omega.{arith}
 
 own : (su : Setup) (q : Request) → OwnNamed su q → AllNamed su (addresses q)
@@ -40,7 +41,9 @@ slots-are-named su k i ok l h =
     let e = setup-facts su ok .0 in
     let p = setup-few (su .store) e in
     let s = setup-pool (su .store) e k l .3 in
-    (omega arith, omega arith)
+    let at : poolOf (addressOf k i) ≡ k = omega arith in
+    let in-it : slotOf (addressOf k i) ≡ i = omega arith in
+    (rw at l, rw (at, in-it) h)
 
 pub more-is-roomier : (su : Setup) → MoreIsRoomier su
 more-is-roomier su =
