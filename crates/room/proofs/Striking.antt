@@ -4,10 +4,10 @@ use Rattle.room.specs.Striking.{Full, NotFull, StrikesFull, StruckIfFull
 use Rattle.rules.specs.Papers.{Paper}
 use Rattle.scheduler.specs.Steps.{Answer}
 use borrow.Author.Tests.{ne-eqb}
-use mathlib.Core.Bool.{false, true}
+use mathlib.Core.Bool.{Bool, cond, false, true}
 use mathlib.Core.List.{List, _∷_}
 use mathlib.Core.Logic.{_⊎_, inl, inr}
-use mathlib.Core.Path.{_≡_, refl}
+use mathlib.Core.Path.{_≡_, ap, refl}
 
 full : (p : Paper) → (p .number ≡ 12) ⊎ (p .number ≡ 14) → struck p ≡ true
 unfolding struck
@@ -25,11 +25,11 @@ struck-if-full p = (λ f. full p (f .by), λ n. not-full p n)
 module _ {A : Type 0} (a : Answer) (given : List Answer) (x : A) (xs : List A) where
   goes : Full (a .paper) → strike (a ∷ given) (x ∷ xs) ≡ strike given xs
   unfolding strike
-  goes f = rw (full (a .paper) (f .by))
+  goes f = ap (λ (b : Bool). cond b (strike given xs) (x ∷ strike given xs)) (full (a .paper) (f .by))
 
   stays : NotFull (a .paper) → strike (a ∷ given) (x ∷ xs) ≡ x ∷ strike given xs
   unfolding strike
-  stays n = rw (not-full (a .paper) n)
+  stays n = ap (λ (b : Bool). cond b (strike given xs) (x ∷ strike given xs)) (not-full (a .paper) n)
 
 pub strikes-full : (A : Type 0) → StrikesFull A
 unfolding strike
