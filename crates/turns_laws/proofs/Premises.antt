@@ -40,7 +40,8 @@ unfolding FewestTicks
 fewest-ticks d k n h l =
     let e = div-add-mod' (d + (k - 1)) k in
     ⊎-elim (λ (a : roundedUp d k ≤ n). a)
-    (λ (b : n < roundedUp d k). let m : (n + 1) * k ≤ roundedUp d k * k = mul-le-mul-right {m = n + 1} {n = roundedUp d k} k (omega arith) in absurd (omega arith))
+    (λ (b : n < roundedUp d k).
+    let m : (n + 1) * k ≤ roundedUp d k * k = mul-le-mul-right {m = n + 1} {n = roundedUp d k} k (omega arith) in absurd (omega arith))
     (le-or-lt (roundedUp d k) n)
 
 pub largest-is-one : (su : Setup) → LargestIsOne su

@@ -1,4 +1,4 @@
--- What requests of every kind are answered by the definitions, computed.
+-- What requests of every kind, and repeated ticks, are answered by the definitions, computed.
 use Rattle.check_code.specs.CheckCode.{checkCode, feed, shift}
 use Rattle.counting.specs.Counting.{countIn}
 use Rattle.gate.specs.Entering.{enter, insertStoredIn, timed}
@@ -33,13 +33,31 @@ use Rattle.selection.specs.Match.{firstMatch, isMatch, lastMatch, victim}
 use Rattle.selection.specs.Windows.{endOf, filter, firstRow, startOf, within}
 use Rattle.sweep.specs.Sweep.{sweep, swept}
 use Rattle.windows.specs.Windowing.{endsInRange, forward, retrieveIn, windowOf, windowed}
-use Rattle.witness.specs.Every.{answers, requests, small, twoSeconds}
+use Rattle.witness.specs.Every.{answers, handed, loaded, logs, requests, small, twoSeconds}
+use Rattle.demands.specs.Following.{stands}
+use Rattle.schedule.specs.State.{stateOf}
+use Rattle.scheduler.specs.Laws.{ticks}
+use Rattle.slots.specs.View.{bytesAt, lenAt, marked, part, view}
+use Rattle.layout.specs.Layout.{bytesBefore, rowsBefore}
+use Rattle.rows.specs.Entries.{unpack}
+use mathlib.Core.Bool.{Bool, false, true}
 use Rattle.witness.specs.Given.{secs}
 
 pub answered-as : run small requests (freshState small (secs 10) twoSeconds) .answers ≡ answers
 unfolding activity addIn after allBelow allOf below bytesOf carried checkBytes checkCode choose clearIn clockIn countIn dataOf deleteByIdIn deleteIn
-    deleteKeepingIn deleteWindowIn each editAt endOf endsInRange enter entered feed filter findAt firstLacks firstMatch firstRow forward freed freshPools
-    handedOut handout hasIn headerBits ifHeld ifNamed insertSorted insertStoredIn insertUnwrappedIn insertWrappedIn isMatch lastMatch leave lenIn logBytes looked
-    markIn number offsets opened over packetIn place readIn readOf recordBytes records resetIn retrieveIn run says shift stampAt stampOf stamped
-    startOf step sweep swept takeIn through tickIn ticked timed total totalInBounds unless versionNibble victim windowOf windowed within without
+    deleteKeepingIn deleteWindowIn each editAt endOf endsInRange enter entered feed filter findAt firstLacks firstMatch firstRow forward freed
+    freshPools handedOut handout hasIn headerBits ifHeld ifNamed insertSorted insertStoredIn insertUnwrappedIn insertWrappedIn isMatch
+    lastMatch leave lenIn logBytes looked markIn number offsets opened over packetIn place readIn readOf recordBytes records resetIn
+    retrieveIn run says shift stampAt stampOf stamped startOf step sweep swept takeIn through tickIn ticked timed total totalInBounds unless
+    versionNibble victim windowOf windowed within without
 answered-as = refl
+
+pub handed-as : (del : Bool) → run small (ticks 2 del logs) (stands small loaded) .answers ≡ handed
+unfolding activity addIn after allBelow allOf below bytesAt bytesBefore bytesOf carried checkBytes checkCode choose clearIn clockIn countIn dataOf
+    deleteByIdIn deleteIn deleteKeepingIn deleteWindowIn each editAt endOf endsInRange enter entered feed filter findAt firstLacks firstMatch
+    firstRow forward freed freshPools handedOut handout hasIn headerBits ifHeld ifNamed insertSorted insertStoredIn insertUnwrappedIn
+    insertWrappedIn isMatch lastMatch leave lenAt lenIn logBytes looked markIn marked number offsets opened over packetIn part place readIn
+    readOf recordBytes records resetIn retrieveIn rowsBefore run says shift stampAt stampOf stamped startOf stateOf step sweep swept takeIn
+    through tickIn ticked timed total totalInBounds unless unpack versionNibble victim view windowOf windowed within without
+handed-as true = refl
+handed-as false = refl

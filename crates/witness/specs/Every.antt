@@ -160,3 +160,20 @@ answers = answersEarly ++ (plain 12 (1 ∷ []) ∷ answersMiddle) ++ (plain 14 [
 -- 4, 13 and 18 are left
 abbrev pub keptAnswers : List Answer
 keptAnswers = answersEarly ++ answersMiddle ++ answersLate
+
+-- tables as they stand before the first tick, disabled; two logs of the room that two records of 32 bytes ask; and what ticks with limit 2
+-- answer
+abbrev pub loaded : Lent
+loaded =
+    record {
+      rec = record { count = 3; clock = secs 13; margin = twoSeconds; enabled = false };
+      store = packetP ++ replicate 19 0 ++ (1 ∷ 2 ∷ []) ++ replicate 18 5 ++ replicate 12 0;
+      lens = 13 ∷ 65535 ∷ 20 ∷ [];
+      rows = 4398046511116 ∷ 0 ∷ 0x20011 ∷ 0 ∷ 4398046511117 ∷ 0 ∷ 7 ∷ 65536 ∷ 4398046511117 ∷ 0 ∷ 8 ∷ 1 ∷ [];
+    }
+
+abbrev pub logs : List (List ℕ)
+logs = replicate 114 0 ∷ replicate 114 0 ∷ []
+
+abbrev pub handed : List Answer
+handed = lent 0 (2 ∷ 1 ∷ []) (disabledLog ++ replicate 30 0) ∷ lent 0 (1 ∷ 0 ∷ []) (missingLog ++ replicate 85 0) ∷ []
