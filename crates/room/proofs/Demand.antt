@@ -13,6 +13,7 @@ use lib.ListN.{length}
 use mathlib.Core.Bool.{Bool, cond, false, true}
 use mathlib.Core.List.{List, [], _∷_}
 use mathlib.Core.Path.{_≡_, ap, refl, subst, sym}
+use native.Mathlib.Omega.{arith}
 
 module _ (su lu : Setup) (more : su .entries ≤ lu .entries) (off : su .store .spill ≡ false) (ns ks : List ℕ)
     (narrow : Narrow ns) (few : length ns ≤ 256) (named : (a : ℕ) → Named su a → Slotted ns a) where
@@ -39,5 +40,5 @@ room-never-changes-an-answer larger su lu clock margin qs ok r off named =
     let given = answersOf su clock margin qs in
     subst (λ (ps : List Pool). run lu (strike given qs) (withPools ps (freshState su clock margin)) .answers ≡ strike given given)
     (sym (fresh-grow su lu r))
-    (runs su lu (r .more-entries) (off .first) (slotsOf su) (moreOf su lu) (few-slots su ok) (few-pools su ok) (slotted-by su) qs
+    (runs su lu (omega (arith, r .more-entries)) (off .first) (slotsOf su) (moreOf su lu) (few-slots su ok) (few-pools su ok) (slotted-by su) qs
     (freshState su clock margin) (record { shaped = fresh-shape su; named = tt }) named)

@@ -1,4 +1,6 @@
--- The proof of demand 3: Demand. The other files help it.
+-- The proof of demand 3: Demand; what is struck: Striking; what meets its premises: Premises. The other files help it.
+pub mod Striking
+pub mod Premises
 pub mod Grow
 pub mod Choosing
 pub mod Alike

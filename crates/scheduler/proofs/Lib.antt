@@ -15,3 +15,4 @@ pub mod StaysSound
 pub mod Stepping
 pub mod DueFirst
 pub mod Draining
+pub mod Premises

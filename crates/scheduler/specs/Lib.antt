@@ -4,3 +4,4 @@ pub mod Fits
 pub mod Words
 pub mod Laws
 pub mod OneOutcome
+pub mod Premises

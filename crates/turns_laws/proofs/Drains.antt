@@ -82,7 +82,7 @@ nearly x k h = let e = div-add-mod' x k in let r = mod-lt x {m = k} h in omega a
 
 pub rounded-up : (d k n : ℕ) → 1 ≤ k → roundedUp d k ≤ n → d ≤ n * k
 rounded-up d k n h l =
-    let e : d + (k - 1) ≤ roundedUp d k * k + (k - 1) = nearly _ k h in
+    let e = nearly (d + (k - 1)) k h in
     let m = mul-le-mul-right {m = roundedUp d k} {n = n} k l in
     omega arith
 

@@ -7,3 +7,4 @@ pub mod Follows
 pub mod Packets
 pub mod Drains
 pub mod FromLog
+pub mod Premises

@@ -2,3 +2,4 @@
 pub mod Due
 pub mod Laws
 pub mod Draining
+pub mod Premises
