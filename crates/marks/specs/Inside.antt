@@ -1,0 +1,14 @@
+-- One length without its mark, and the marks taken off the first rows.
+-- A reader need not believe this file: private functions cite it, no promise does.
+use Prim.Native.Nat.{_-_, _<_, _≤_, ℕ}
+use Rattle.layout.specs.Limits.{storeFree}
+use Rattle.marks.specs.Marks.{added}
+use Rattle.rules.specs.Tests.{allOf, unless}
+use lib.Dec.{leb, ltb}
+use lib.ListN.{getD, length}
+use mathlib.Core.List.{List, [], _∷_}
+use mathlib.Core.Path.{_≡_}
+
+-- a length without its mark
+unfoldable pub bare : ℕ → ℕ
+bare w = unless (allOf (leb added w ∷ ltb w storeFree ∷ [])) w (w - added)
