@@ -5,26 +5,24 @@ use Rattle.layout.proofs.Bounds.{bounds}
 use Rattle.layout.specs.Judge.{Sound}
 use Rattle.layout.specs.Layout.{allRows, rowOf}
 use Rattle.layout.specs.Limits.{maxSlotSize}
-use Rattle.layout.specs.declared.Setup.{Setup}
 use Rattle.marks.proofs.Packets.{no-packet, packet-long, packet-none, packet-same}
 use Rattle.marks.specs.Marks.{Marks, added, packetAt, unlessMarked}
 use Rattle.marks.specs.Promise.{Deletes, Marking, Tells}
 use Rattle.rules.proofs.Cases.{eq-or-ne, le-or-lt}
 use Rattle.rules.specs.Tests.{unless}
-use Rattle.slots.specs.Pools.{Found, Pool, find}
+use Rattle.slots.specs.Pools.{Pool, find}
 use Rattle.slots.specs.View.{view}
 use Rattle.store.proofs.Rows.{SameSlot, row-plain, row-slot, slot-row}
 use Rattle.store.specs.Edits.{edit, wipe}
 use Rattle.store_laws.proofs.Wiped.{Missing, find-else, find-wiped}
 use borrow.Author.Tests.{le-ltb, lt-ltb}
-use lib.Dec.{ltb}
 use lib.ListN.{getD, length, length-set, set}
 use lib.Seq.{getD-set-other, getD-set-same}
-use mathlib.Core.Bool.{Bool, false, true}
 use mathlib.Core.List.{List, []}
 use mathlib.Core.Logic.{_⊎_, inl, inr, ⊎-elim}
 use mathlib.Core.Path.{_∙_, _≡_, ap, refl, sym}
 use native.Mathlib.Omega.{arith}
+use Rattle.layout.specs.declared.Setup.{Setup}
 
 -- what a row's length says of a packet p
 module _ (w : ℕ) (p : List ℕ) where

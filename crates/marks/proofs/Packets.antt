@@ -2,7 +2,6 @@
 use Prim.Native.Nat.{_<_, _≤_, ℕ}
 use Rattle.layout.specs.Judge.{Sound}
 use Rattle.layout.specs.Layout.{allRows, rowOf}
-use Rattle.layout.specs.declared.Setup.{Setup}
 use Rattle.lookup.specs.Calls.{ifHeld, ifNamed, packetIn}
 use Rattle.marks.specs.Marks.{added, packetAt}
 use Rattle.rules.specs.Papers.{after, done}
@@ -16,6 +15,7 @@ use mathlib.Core.List.{List, [], _∷_}
 use mathlib.Core.Logic.{_⊎_, inl, inr}
 use mathlib.Core.Path.{_∙_, _≡_, ap, refl, sym}
 use native.Mathlib.Omega.{arith}
+use Rattle.layout.specs.declared.Setup.{Setup}
 
 pub packet-none : (ps : List Pool) (a : ℕ) → Missing (find ps a) → packetAt ps a ≡ []
 unfolding packetAt packetIn ifHeld ifNamed after

@@ -1,15 +1,14 @@
 -- Taking the marks off the length table: with all of them off it is the table that was there before.
 use Prim.Native.Nat.{_+_, _-_, _<_, _≤_, ℕ}
-use Rattle.rules.proofs.Cases.{eq-or-ne, le-or-lt}
+use Rattle.layout.specs.Layout.{allRows}
+use Rattle.layout.specs.Limits.{maxSlotSize, storeFree}
 use Rattle.marks.specs.Inside.{bare}
 use Rattle.marks.specs.Marks.{Marks, added}
 use Rattle.marks.specs.Promise.{Restores}
+use Rattle.rules.proofs.Cases.{eq-or-ne, le-or-lt}
 use Rattle.rules.specs.Tests.{allOf, unless}
-use Rattle.store.proofs.Rows.{row-plain}
-use Rattle.layout.specs.Judge.{Sound}
-use Rattle.layout.specs.Layout.{allRows}
-use Rattle.layout.specs.Limits.{maxSlotSize, storeFree}
 use Rattle.slots.specs.Pools.{Pool}
+use Rattle.store.proofs.Rows.{row-plain}
 use borrow.Author.Tests.{le-leb, lt-leb, lt-ltb}
 use lib.ListN.{getD, length, length-set, set}
 use lib.Seq.{ext-getD, getD-set-other, getD-set-same}

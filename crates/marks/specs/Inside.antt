@@ -1,13 +1,11 @@
--- One length without its mark, and the marks taken off the first rows.
+-- One length without its mark.
 -- A reader need not believe this file: private functions cite it, no promise does.
-use Prim.Native.Nat.{_-_, _<_, _≤_, ℕ}
+use Prim.Native.Nat.{_-_, ℕ}
 use Rattle.layout.specs.Limits.{storeFree}
 use Rattle.marks.specs.Marks.{added}
 use Rattle.rules.specs.Tests.{allOf, unless}
 use lib.Dec.{leb, ltb}
-use lib.ListN.{getD, length}
-use mathlib.Core.List.{List, [], _∷_}
-use mathlib.Core.Path.{_≡_}
+use mathlib.Core.List.{[], _∷_}
 
 -- a length without its mark
 unfoldable pub bare : ℕ → ℕ

@@ -3,7 +3,6 @@ use Prim.Native.Nat.{_+_, _<_, _≤_, ℕ}
 use Rattle.layout.specs.Judge.{Sound}
 use Rattle.layout.specs.Layout.{allRows, rowOf}
 use Rattle.layout.specs.Limits.{maxSlotSize}
-use Rattle.layout.specs.declared.Setup.{Setup}
 use Rattle.lookup.specs.Calls.{packetIn}
 use Rattle.rules.specs.Papers.{after}
 use Rattle.rules.specs.Tests.{unless}
@@ -14,6 +13,7 @@ use lib.ListN.{getD, length}
 use mathlib.Core.List.{List, []}
 use mathlib.Core.Logic.{_⊎_}
 use mathlib.Core.Path.{_≡_}
+use Rattle.layout.specs.declared.Setup.{Setup}
 
 -- what a mark adds to a packet's length
 abbrev pub added : ℕ

@@ -2,13 +2,13 @@
 use Prim.Native.Nat.{_≤_, ℕ}
 use Rattle.layout.specs.Layout.{rowOf}
 use Rattle.layout.specs.Limits.{maxSlotSize}
-use Rattle.layout.specs.declared.Setup.{Setup}
 use Rattle.marks.specs.Marks.{Marks, packetAt}
 use Rattle.slots.specs.Pools.{Pool}
 use Rattle.store.specs.Edits.{edit, wipe}
 use lib.ListN.{length}
 use mathlib.Core.List.{List}
 use mathlib.Core.Path.{_≡_}
+use Rattle.layout.specs.declared.Setup.{Setup}
 
 -- it stands for some subpools: what is asked of a caller
 pub record Marking (su : Setup) (le : List ℕ) : Type 0 where

@@ -38,11 +38,11 @@ pub fn bytes_left(setup: Setup, lens: &[u16], all: usize, row: usize) -> usize
     if all <= row {
         return 0;
     }
-    let w = lens[row];
-    if MARK <= w {
+    let left = lens[row];
+    if MARK <= left {
         return 0;
     }
-    layout::wide(w)
+    layout::wide(left)
 }
 
 // Marks the packet of a row, if it has one, as handed out.

@@ -1,6 +1,5 @@
 -- A turn's packet and what the turn leaves, by the store's promise on marked packets.
 use Prim.Native.Nat.{ℕ}
-use Rattle.layout.specs.declared.Setup.{Setup}
 use Rattle.lookup.specs.Calls.{ifHeld, ifNamed, packetIn}
 use Rattle.marks.specs.Marks.{packetAt}
 use Rattle.marks.specs.Promise.{Deletes}
@@ -13,6 +12,7 @@ use mathlib.Core.Bool.{Bool, false, true}
 use mathlib.Core.List.{List, [], _∷_}
 use mathlib.Core.Path.{_≡_, refl}
 use native.Mathlib.Omega.{arith}
+use Rattle.layout.specs.declared.Setup.{Setup}
 
 pub packet-of : (ps : List Pool) (a : ℕ) → packetAt ps a ≡ packetOf (find ps a)
 unfolding packetAt packetIn ifHeld ifNamed after

@@ -1,18 +1,17 @@
 -- Counting the records that fit: what is left to count, over the subpools that the table with its marks stands for.
 use Prim.Native.Nat.{_+_, _<_, _≤_, suc, ℕ}
+use Rattle.layout.specs.Judge.{Sound}
+use Rattle.layout.specs.Layout.{rowOf}
 use Rattle.marks.proofs.Marking.{marking, marks-first}
-use Rattle.marks.specs.Marks.{Marks}
 use Rattle.marks.specs.Promise.{Marking, Tells}
 use Rattle.measure.proofs.Leaving.{packet-of}
 use Rattle.measure.specs.Fitting.{fitting}
 use Rattle.measure.specs.Inside.{Counted, Left}
-use Rattle.rules.specs.Tests.{unless}
-use Rattle.layout.specs.Judge.{Sound}
-use Rattle.layout.specs.Layout.{rowOf}
-use Rattle.slots.specs.Pools.{Pool, find}
-use Rattle.slots.specs.View.{view}
 use Rattle.rows.proofs.Rows.{drop-row, length-unpack}
 use Rattle.rows.specs.Entries.{Entry, row, unpack}
+use Rattle.rules.specs.Tests.{unless}
+use Rattle.slots.specs.Pools.{Pool, find}
+use Rattle.slots.specs.View.{view}
 use Rattle.turn.specs.Turns.{leave, need}
 use borrow.Author.Tests.{le-leb, lt-leb}
 use lib.ListN.{drop, drop-of-length-le, length}
@@ -58,10 +57,10 @@ module _ (su : Setup) (st le₀ w : List ℕ) (n cap : ℕ) (del : Bool) where
     measuring-marks = marking (k .counted .marks)
 
     -- a is the address of entry i, r its row, and len the bytes of the packet that it still names
-    module _ (a r len : ℕ) (at : a ≡ row w i .addr) (there : r ≡ rowOf su a) (left : Tells su le r len) where
+    module _ (a r len : ℕ) (at : a ≡ row w i .addr) (there : r ≡ rowOf su a) (told : Tells su le r len) where
       spent : used + need (find (k .counted .pools) (row w i .addr)) ≡ used + 21 + len
       spent =
-          let b = left .bytes st le₀ (k .counted .pools) (row w i .addr) (k .counted .marks) (there ∙ ap (rowOf su) at) in
+          let b = told .bytes st le₀ (k .counted .pools) (row w i .addr) (k .counted .marks) (there ∙ ap (rowOf su) at) in
           let p = ap length (packet-of (k .counted .pools) (row w i .addr)) in
           omega arith
 

@@ -2,13 +2,13 @@
 -- A reader need not believe this file: contracts below the public calls cite it, no public call's promise does.
 use Prim.Native.Nat.{ℕ}
 use Rattle.layout.specs.Layout.{rowOf}
-use Rattle.layout.specs.declared.Setup.{Setup}
 use Rattle.marks.specs.Marks.{Marks}
 use Rattle.slots.specs.Pools.{Pool}
 use Rattle.turn.specs.Turns.{leave}
 use mathlib.Core.Bool.{Bool, false}
 use mathlib.Core.List.{List}
 use mathlib.Core.Path.{_≡_}
+use Rattle.layout.specs.declared.Setup.{Setup}
 
 -- a turn: the table stands for what it leaves of any subpools that it stood for, and in keep mode is as it was
 pub record Left (del : Bool) (su : Setup) (le : List ℕ) (row : ℕ) (le′ : List ℕ) : Type 0 where

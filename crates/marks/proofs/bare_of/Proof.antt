@@ -8,7 +8,7 @@ returns : tie.Need-returns
 returns c = bare-low _ (omega arith)
 
 returns-2 : tie.Need-returns-2
-returns-2 c = bare-free _ (c .if2 .taken)
+returns-2 c = bare-free _ (omega arith)
 
 returns-3 : tie.Need-returns-3
 returns-3 c = bare-word _ (omega arith) (c .if2 .left) (omega arith)

@@ -14,19 +14,19 @@ returns c = tells-none _ _ _ (inl (omega (arith, c .before .before .pre .0)))
 inside : (c : tie.Else1) → c .before .before .args .row < length (c .before .before .args .lens .now)
 inside c = let s = c .before .before in row-inside _ _ _ (s .pre .1) (omega (arith, s .pre .0))
 
-mul-w : tie.Need-mul-w
-mul-w c = omega (arith, inside c)
+mul-left : tie.Need-mul-left
+mul-left c = omega (arith, inside c)
 
-shared-slice-read-w : tie.Need-shared-slice-read-w
-shared-slice-read-w c = inside (c .before)
+shared-slice-read-left : tie.Need-shared-slice-read-left
+shared-slice-read-left c = inside (c .before)
 
 returns-2 : tie.Need-returns-2
-returns-2 c = tells-none _ _ _ (inr (c .if2 .taken))
+returns-2 c = tells-none _ _ _ (inr (omega arith))
 
 returns-3 : tie.Need-returns-3
 returns-3 c =
     let s = c .before .before .before .before .before in
-    tells-one _ _ _ (omega (arith, s .pre .0)) (c .before .if2 .left) (s .pre .1) _ (c .wide .ensures .0)
+    tells-one _ _ _ (omega (arith, s .pre .0)) (omega (arith, c .before .if2 .left)) (s .pre .1) _ (c .wide .ensures .0)
 
 pub bytes-left-spec : {M : Type 1} → statement M
-bytes-left-spec = tie.close (tie.spec returns mul-w shared-slice-read-w returns-2 (λ c κs. search needs) returns-3)
+bytes-left-spec = tie.close (tie.spec returns mul-left shared-slice-read-left returns-2 (λ c κs. search needs) returns-3)

@@ -21,7 +21,7 @@ slice-read-w : tie.Need-slice-read-w
 slice-read-w c = inside (c .before)
 
 returns-2 : tie.Need-returns-2
-returns-2 c = deletes-none _ _ _ (inr (c .if2 .taken))
+returns-2 c = deletes-none _ _ _ (inr (omega arith))
 
 mul-lens : tie.Need-mul-lens
 mul-lens c = omega (arith, inside (c .before .before))
@@ -30,7 +30,7 @@ slice-write-lens : tie.Need-slice-write-lens
 slice-write-lens c = inside (c .before .before)
 
 returns-3 : tie.Need-returns-3
-returns-3 c = let s = c .before .before .before in deletes-one _ _ _ (omega (arith, s .pre .0)) (c .if2 .left)
+returns-3 c = let s = c .before .before .before in deletes-one _ _ _ (omega (arith, s .pre .0)) (omega arith)
 
 pub mark-spec : {M : Type 1} → statement M
 mark-spec =
