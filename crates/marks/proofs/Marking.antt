@@ -138,22 +138,22 @@ module _ (su : Setup) (st le₀ : List ℕ) (ps : List Pool) (le : List ℕ) (k 
 module _ (su : Setup) (le : List ℕ) (row : ℕ) where
   pub tells-none : (allRows su ≤ row) ⊎ (added ≤ getD le row 0) → Tells su le row 0
   tells-none h =
-      record { bytes = λ st le₀ ps a k e. sym (ap length (nothing su st le₀ ps le k a (rw e at h))); short = omega arith }
+      record { bytes = λ st le₀ ps a k e. sym (ap length (nothing su st le₀ ps le k a (rw (e .row) at h))); short = omega arith }
 
   pub deletes-none : (allRows su ≤ row) ⊎ (added ≤ getD le row 0) → Deletes su le row le
-  deletes-none h = record { wiped = λ st le₀ ps a k e. wiped-none su st le₀ ps le k a (rw e at h) }
+  deletes-none h = record { wiped = λ st le₀ ps a k e. wiped-none su st le₀ ps le k a (rw (e .row) at h) }
 
   module _ (h : row < allRows su) (m : getD le row 0 < added) where
     pub tells-one : Marking su le → (n : ℕ) → n ≡ getD le row 0 → Tells su le row n
     tells-one d n q =
         let p = length-plain su (d .store) (d .before) (d .pools) le (d .marks) row h m in
         record {
-          bytes = λ st le₀ ps a k e. q ∙ ap (λ (r : ℕ). getD le r 0) e ∙ something su st le₀ ps le k a (rw e at h) (rw e at m);
+          bytes = λ st le₀ ps a k e. q ∙ ap (λ (r : ℕ). getD le r 0) (e .row) ∙ something su st le₀ ps le k a (rw (e .row) at h) (rw (e .row) at m);
           short = omega arith;
         }
 
     pub deletes-one : Deletes su le row (set le row (getD le row 0 + added))
-    deletes-one = record { wiped = λ st le₀ ps a k e. rw e (wiped-one su st le₀ ps le k a (rw e at h) (rw e at m)) }
+    deletes-one = record { wiped = λ st le₀ ps a k e. rw (e .row) (wiped-one su st le₀ ps le k a (rw (e .row) at h) (rw (e .row) at m)) }
 
 pub rows-inside : {su : Setup} {le : List ℕ} → Marking su le → allRows su ≤ length le
 rows-inside d = rows-fit _ (d .store) (d .before) (d .pools) _ (d .marks)

@@ -28,7 +28,7 @@ unfoldable pub unlessMarked : ℕ → List ℕ → List ℕ
 unlessMarked w packet = unless (ltb w added) [] packet
 
 -- The table le is le₀ with marks at some packets' lengths, and stands for the subpools ps: there an address names the packet that it
--- named before, and none where its row is marked.
+-- named before, and none where its length is marked.
 pub record Marks (su : Setup) (st le₀ : List ℕ) (ps : List Pool) (le : List ℕ) : Type 0 where
   pub sound : Sound su st le₀
   pub same-length : length le ≡ length le₀

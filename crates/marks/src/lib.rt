@@ -3,8 +3,7 @@
 ghost use mathlib.Core.Path.{_≡_};
 ghost use mathlib.Core.Bool.{true};
 ghost use Rattle.layout.specs.Judge.{setupOk};
-ghost use Rattle.layout.specs.Layout.{allRows, rowOf};
-ghost use Rattle.marks.specs.Promise.{Deletes, Marking, Restores, Tells};
+ghost use Rattle.marks.specs.Promise.{Deletes, Marking, Place, Places, Restores, Tells};
 ghost use Rattle.marks.specs.Inside.{bare};
 use layout::STORE_FREE;
 use layout::Setup;
@@ -13,51 +12,51 @@ use layout::Setup;
 // is taken for the mark of a free slot, 65,535.
 const MARK: u16 = 8192;
 
-// How many rows the setup has, one for each slot.
-pub fn rows(setup: Setup) -> usize
+// How many places the length table has, one for each slot of the setup.
+pub fn places(setup: Setup) -> usize
     requires { ⌜ setupOk setup ≡ true ⌝ }
-    ensures { λ r. ⌜ r ≡ allRows setup ⌝ }
+    ensures { λ r. ⌜ Places setup r ⌝ }
 {
     layout::rows(setup)
 }
 
-// The row of the slot that an address names; the number of all rows where the setup has none. A caller looks it up once, for the two
+// The place of the slot that an address names; the number of all places where the setup has none. A caller looks it up once, for the two
 // functions below.
-pub fn row_of(setup: Setup, addr: u64) -> usize
+pub fn place_of(setup: Setup, addr: u64) -> usize
     requires { ⌜ setupOk setup ≡ true ⌝ }
-    ensures { λ r. ⌜ r ≡ rowOf setup addr ⌝ }
+    ensures { λ r. ⌜ Place setup addr r ⌝ }
 {
     layout::row_of(setup, addr)
 }
 
-// The bytes of the packet that a row still stands for: none where the setup has no such row, the slot is free, or its packet is marked.
-pub fn bytes_left(setup: Setup, lens: &[u16], all: usize, row: usize) -> usize
-    requires { ⌜ (all ≡ allRows setup) × Marking setup (now lens) ⌝ }
-    ensures { λ r. ⌜ Tells setup (now (lens .entry)) row r ⌝ }
+// The bytes of the packet that a place still stands for: none where the setup has no such slot, it is free, or its packet is marked.
+pub fn bytes_left(setup: Setup, lens: &[u16], all: usize, place: usize) -> usize
+    requires { ⌜ Places setup all × Marking setup (now lens) ⌝ }
+    ensures { λ r. ⌜ Tells setup (now (lens .entry)) place r ⌝ }
 {
-    if all <= row {
+    if all <= place {
         return 0;
     }
-    let left = lens[row];
+    let left = lens[place];
     if MARK <= left {
         return 0;
     }
     layout::wide(left)
 }
 
-// Marks the packet of a row, if it has one, as handed out.
-pub fn mark(setup: Setup, lens: &mut [u16], all: usize, row: usize)
-    requires { ⌜ (all ≡ allRows setup) × Marking setup (now lens) ⌝ }
-    ensures { λ _. ⌜ Deletes setup (now (lens .entry)) row (now (lens .exit)) ⌝ }
+// Marks the packet of a place, if it has one, as handed out.
+pub fn mark(setup: Setup, lens: &mut [u16], all: usize, place: usize)
+    requires { ⌜ Places setup all × Marking setup (now lens) ⌝ }
+    ensures { λ _. ⌜ Deletes setup (now (lens .entry)) place (now (lens .exit)) ⌝ }
 {
-    if all <= row {
+    if all <= place {
         return;
     }
-    let w = lens[row];
+    let w = lens[place];
     if MARK <= w {
         return;
     }
-    lens[row] = w + MARK;
+    lens[place] = w + MARK;
 }
 
 // A length without its mark.

@@ -24,12 +24,12 @@ packet-of ps a = go (find ps a)
     go vacant = refl
     go (held n b) = refl
 
-module _ (su : Setup) (le : List ℕ) (row : ℕ) where
-  pub left-kept : (del : Bool) → del ≡ false → Left del su le row le
+module _ (su : Setup) (le : List ℕ) (place : ℕ) where
+  pub left-kept : (del : Bool) → del ≡ false → Left del su le place le
   unfolding leave
   left-kept del e = rw e (record { marks = λ st le₀ ps a k q. k; kept = λ d. refl })
 
-  pub left-deleted : (del : Bool) (le′ : List ℕ) → del ≡ true → Deletes su le row le′ → Left del su le row le′
+  pub left-deleted : (del : Bool) (le′ : List ℕ) → del ≡ true → Deletes su le place le′ → Left del su le place le′
   unfolding leave
   left-deleted del le′ e d =
       rw e (record { marks = d .wiped; kept = λ f. let z : _≡_ {A = ℕ} 0 1 = cc in absurd (omega arith) })

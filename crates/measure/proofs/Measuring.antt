@@ -1,9 +1,8 @@
 -- Counting the records that fit: what is left to count, over the subpools that the table with its marks stands for.
 use Prim.Native.Nat.{_+_, _<_, _≤_, suc, ℕ}
 use Rattle.layout.specs.Judge.{Sound}
-use Rattle.layout.specs.Layout.{rowOf}
 use Rattle.marks.proofs.Marking.{marking, marks-first}
-use Rattle.marks.specs.Promise.{Marking, Tells}
+use Rattle.marks.specs.Promise.{Marking, Place, Tells}
 use Rattle.measure.proofs.Leaving.{packet-of}
 use Rattle.measure.specs.Fitting.{fitting}
 use Rattle.measure.specs.Inside.{Counted, Left}
@@ -56,11 +55,14 @@ module _ (su : Setup) (st le₀ w : List ℕ) (n cap : ℕ) (del : Bool) where
     pub measuring-marks : Marking su le
     measuring-marks = marking (k .counted .marks)
 
-    -- a is the address of entry i, r its row, and len the bytes of the packet that it still names
-    module _ (a r len : ℕ) (at : a ≡ row w i .addr) (there : r ≡ rowOf su a) (told : Tells su le r len) where
+    -- a is the address of entry i, r its place, and len the bytes of the packet that it still names
+    module _ (a r len : ℕ) (named : a ≡ row w i .addr) (there : Place su a r) (told : Tells su le r len) where
+      place : Place su (row w i .addr) r
+      place = rw named at there
+
       spent : used + need (find (k .counted .pools) (row w i .addr)) ≡ used + 21 + len
       spent =
-          let b = told .bytes st le₀ (k .counted .pools) (row w i .addr) (k .counted .marks) (there ∙ ap (rowOf su) at) in
+          let b = told .bytes st le₀ (k .counted .pools) (row w i .addr) (k .counted .marks) place in
           let p = ap length (packet-of (k .counted .pools) (row w i .addr)) in
           omega arith
 
@@ -81,7 +83,7 @@ module _ (su : Setup) (st le₀ w : List ℕ) (n cap : ℕ) (del : Bool) where
             counted =
                 record {
                   pools = leave del (k .counted .pools) (row w i .addr);
-                  marks = f .marks st le₀ (k .counted .pools) (row w i .addr) (k .counted .marks) (there ∙ ap (rowOf su) at);
+                  marks = f .marks st le₀ (k .counted .pools) (row w i .addr) (k .counted .marks) place;
                   kept = λ d. f .kept d ∙ k .counted .kept d;
                 };
             goes = omega arith;

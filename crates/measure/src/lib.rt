@@ -4,8 +4,7 @@ ghost use mathlib.Core.Path.{_≡_};
 ghost use Prim.Native.Nat.{_≤_};
 ghost use Rattle.log.specs.Log.{maxLogBytes};
 ghost use Rattle.layout.specs.Judge.{Sound as StoreSound};
-ghost use Rattle.layout.specs.Layout.{allRows};
-ghost use Rattle.marks.specs.Promise.{Marking};
+ghost use Rattle.marks.specs.Promise.{Marking, Places};
 ghost use Rattle.slots.specs.View.{view};
 ghost use Rattle.rows.specs.Entries.{unpack};
 ghost use Rattle.rows.specs.Order.{Held};
@@ -13,15 +12,15 @@ ghost use Rattle.measure.specs.Inside.{Counted, Left};
 ghost use Rattle.measure.specs.Fitting.{fitting};
 ghost use Rattle.turn.specs.Turns.{leave};
 
-// Marks the packet of a row as handed out, in delete mode.
-fn mark(setup: layout::Setup, lens: &mut [u16], all: usize, row: usize, delete: bool)
-    requires { ⌜ (all ≡ allRows setup) × Marking setup (now lens) ⌝ }
-    ensures { λ _. ⌜ Left delete setup (now (lens .entry)) row (now (lens .exit)) ⌝ }
+// Marks the packet of a place as handed out, in delete mode.
+fn mark(setup: layout::Setup, lens: &mut [u16], all: usize, place: usize, delete: bool)
+    requires { ⌜ Places setup all × Marking setup (now lens) ⌝ }
+    ensures { λ _. ⌜ Left delete setup (now (lens .entry)) place (now (lens .exit)) ⌝ }
 {
     if !delete {
         return;
     }
-    marks::mark(setup, lens, all, row);
+    marks::mark(setup, lens, all, place);
 }
 
 // How many of the first n rows fit into cap bytes. In delete mode the packets of those that do are marked.
@@ -40,18 +39,18 @@ fn mark_fitting(
     ensures { λ r. ⌜ (r ≡ fitting (leave delete) 8 cap (unpack n (now (rows .entry))) (view setup (now (store .entry)) (now (lens .entry))))
         × Counted delete setup (now (store .entry)) (now (lens .entry)) (now (lens .exit)) ⌝ }
 {
-    let all = marks::rows(setup);
+    let all = marks::places(setup);
     let mut used: usize = 8;
     let mut i: usize = 0;
     while i < n {
         let info = rows::tc_info(rows, n, i);
-        let row = marks::row_of(setup, info.addr);
-        let len = marks::bytes_left(setup, lens, all, row);
+        let place = marks::place_of(setup, info.addr);
+        let len = marks::bytes_left(setup, lens, all, place);
         let next = used + 21 + len;
         if cap < next {
             return i;
         }
-        mark(setup, lens, all, row, delete);
+        mark(setup, lens, all, place, delete);
         used = next;
         i += 1;
     }

@@ -9,10 +9,10 @@ use Rattle.marks.proofs.mark.Statement.{statement}
 use Rattle.marks.proofs.mark.Tie as tie
 
 returns : tie.Need-returns
-returns c = deletes-none _ _ _ (inl (omega (arith, c .before .pre .0)))
+returns c = deletes-none _ _ _ (inl (omega (arith, c .before .pre .0 .rows)))
 
-inside : (c : tie.Else1) → c .before .args .row < length (c .before .args .lens .now)
-inside c = let s = c .before in row-inside _ _ _ (s .pre .1) (omega (arith, s .pre .0))
+inside : (c : tie.Else1) → c .before .args .place < length (c .before .args .lens .now)
+inside c = let s = c .before in row-inside _ _ _ (s .pre .1) (omega (arith, s .pre .0 .rows))
 
 mul-w : tie.Need-mul-w
 mul-w c = omega (arith, inside c)
@@ -30,7 +30,7 @@ slice-write-lens : tie.Need-slice-write-lens
 slice-write-lens c = inside (c .before .before)
 
 returns-3 : tie.Need-returns-3
-returns-3 c = let s = c .before .before .before in deletes-one _ _ _ (omega (arith, s .pre .0)) (omega arith)
+returns-3 c = let s = c .before .before .before in deletes-one _ _ _ (omega (arith, s .pre .0 .rows)) (omega arith)
 
 pub mark-spec : {M : Type 1} → statement M
 mark-spec =

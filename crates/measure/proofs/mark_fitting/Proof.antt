@@ -12,8 +12,8 @@ Inv-loop setup store lens₀ rows n cap delete all used₀ i₀ lens used i = Me
 abbrev μ-loop : tie.MeasureT-loop
 μ-loop setup store lens₀ rows n cap delete all used₀ i₀ lens used i = n - i
 
-rows-requires : tie.Need-rows-requires Inv-loop μ-loop
-rows-requires c κs = c .before .before .before .pre .0 .setup
+places-requires : tie.Need-places-requires Inv-loop μ-loop
+places-requires c κs = c .before .before .before .pre .0 .setup
 
 loop-holds : tie.Need-loop-holds Inv-loop μ-loop
 loop-holds c = let s = c .before .before .before .before .pre in measuring-first _ _ _ _ _ _ _ (s .0) (s .1 .1 .0)
@@ -21,13 +21,13 @@ loop-holds c = let s = c .before .before .before .before .pre in measuring-first
 tc-info-requires : tie.Need-tc-info-requires Inv-loop μ-loop
 tc-info-requires c κs = (c .before .before .before .before .before .before .pre .1 .0, c .loop-test .taken)
 
-row-of-requires : tie.Need-row-of-requires Inv-loop μ-loop
-row-of-requires c κs = c .before .before .before .before .before .before .before .pre .0 .setup
+place-of-requires : tie.Need-place-of-requires Inv-loop μ-loop
+place-of-requires c κs = c .before .before .before .before .before .before .before .pre .0 .setup
 
 bytes-left-requires : tie.Need-bytes-left-requires Inv-loop μ-loop
 bytes-left-requires c κs =
     let l = c .before .before .before .before in
-    (l .before .rows .ensures, measuring-marks _ _ _ _ _ _ _ _ _ _ (l .loop .inv))
+    (l .before .places .ensures, measuring-marks _ _ _ _ _ _ _ _ _ _ (l .loop .inv))
 
 add-next : tie.Need-add-next Inv-loop μ-loop
 add-next c =
@@ -47,7 +47,7 @@ returns c =
     let d = c .before in
     let l = d .before .before .before .before .before in (
       measuring-stop _ _ _ _ _ _ _ _ _ _ (l .loop .inv) _ _ _
-          (d .before .before .before .tc-info .ensures .1) (d .before .before .row-of .ensures) (d .bytes-left .ensures)
+          (d .before .before .before .tc-info .ensures .1) (d .before .before .place-of .ensures) (d .bytes-left .ensures)
           (d .before .before .before .before .loop-test .taken) (c .if1 .taken),
       l .loop .inv .counted,
     )
@@ -55,7 +55,7 @@ returns c =
 mark-requires : tie.Need-mark-requires Inv-loop μ-loop
 mark-requires c κs =
     let l = c .before .before .before .before .before .before .before in
-    (l .before .rows .ensures, measuring-marks _ _ _ _ _ _ _ _ _ _ (l .loop .inv))
+    (l .before .places .ensures, measuring-marks _ _ _ _ _ _ _ _ _ _ (l .loop .inv))
 
 add-i : tie.Need-add-i Inv-loop μ-loop
 add-i c = search needs
@@ -68,7 +68,7 @@ loop-again c =
     let d = c .before .before .before .before .before in
     let l = d .before .before .before .before .before in
     measuring-next _ _ _ _ _ _ _ _ _ _ (l .loop .inv) _ _ _
-    (d .before .before .before .tc-info .ensures .1) (d .before .before .row-of .ensures) (d .bytes-left .ensures)
+    (d .before .before .before .tc-info .ensures .1) (d .before .before .place-of .ensures) (d .bytes-left .ensures)
     (d .before .before .before .before .loop-test .taken)
     (c .before .before .before .before .if1 .left)
     _ (c .before .before .mark .ensures)
@@ -85,10 +85,10 @@ mark-fitting-spec =
     (tie.spec
     Inv-loop
     μ-loop
-    rows-requires
+    places-requires
     loop-holds
     tc-info-requires
-    row-of-requires
+    place-of-requires
     bytes-left-requires
     add-next
     add-next-2
