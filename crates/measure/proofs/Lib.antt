@@ -1,5 +1,3 @@
 -- The facts by which counting is proved.
-pub mod Marking
-pub mod Standing
-pub mod Unmarking
+pub mod Leaving
 pub mod Measuring

@@ -1,3 +1,3 @@
--- How many entries fit into the log, and the marks that counting leaves.
+-- How many entries fit into the log, and what counting leaves of the store meanwhile.
 pub mod Fitting
 pub mod Inside

@@ -1,55 +1,26 @@
 // How many entries of a tick the log holds, found before anything is written. In delete mode a packet handed out is gone for a later entry with
-// the same address, so each is marked in the length table by its length + MARK, and one pass takes all marks off again.
+// the same address: the store marks it (crate `marks`), and takes all marks off again.
 ghost use mathlib.Core.Path.{_≡_};
-ghost use Prim.Native.Nat.{_<_, _≤_};
-ghost use lib.ListN.{length};
+ghost use Prim.Native.Nat.{_≤_};
 ghost use Rattle.log.specs.Log.{maxLogBytes};
 ghost use Rattle.layout.specs.Judge.{Sound as StoreSound};
-ghost use Rattle.layout.specs.Layout.{allRows};
+ghost use Rattle.marks.specs.Promise.{Marking, Places};
 ghost use Rattle.slots.specs.View.{view};
 ghost use Rattle.rows.specs.Entries.{unpack};
 ghost use Rattle.rows.specs.Order.{Held};
-ghost use Rattle.measure.specs.Inside.{Marked, Unmarked, added, bare, marking, standing};
+ghost use Rattle.measure.specs.Inside.{Counted, Left};
 ghost use Rattle.measure.specs.Fitting.{fitting};
 ghost use Rattle.turn.specs.Turns.{leave};
-use layout::STORE_FREE;
 
-// What a mark adds to a length. Lengths are at most 4,096, so a marked one is at least this and no other is; it is at most 12,288, so none
-// is taken for the mark of a free slot, 65,535.
-const MARK: u16 = 8192;
-
-// The packet bytes that a row of the length table still stands for: none where the setup has no such row, the slot is free, or its packet
-// was handed out.
-fn bytes_left(lens: &[u16], all: usize, row: usize) -> usize
-    requires { ⌜ all ≤ length (now lens) ⌝ }
-    ensures { λ r. ⌜ (r ≡ standing all (now (lens .entry)) row) × (r < added) ⌝ }
-{
-    if all <= row {
-        return 0;
-    }
-    let w = lens[row];
-    if MARK <= w {
-        return 0;
-    }
-    layout::wide(w)
-}
-
-// Marks a packet as handed out, in delete mode.
-fn mark(lens: &mut [u16], all: usize, row: usize, delete: bool)
-    requires { ⌜ all ≤ length (now lens) ⌝ }
-    ensures { λ _. ⌜ now (lens .exit) ≡ marking delete all (now (lens .entry)) row ⌝ }
+// Marks the packet of a place as handed out, in delete mode.
+fn mark(setup: layout::Setup, lens: &mut [u16], all: usize, place: usize, delete: bool)
+    requires { ⌜ Places setup all × Marking setup (now lens) ⌝ }
+    ensures { λ _. ⌜ Left delete setup (now (lens .entry)) place (now (lens .exit)) ⌝ }
 {
     if !delete {
         return;
     }
-    if all <= row {
-        return;
-    }
-    let w = lens[row];
-    if MARK <= w {
-        return;
-    }
-    lens[row] = w + MARK;
+    marks::mark(setup, lens, all, place);
 }
 
 // How many of the first n rows fit into cap bytes. In delete mode the packets of those that do are marked.
@@ -66,49 +37,24 @@ fn mark_fitting(
     requires { ⌜ Held (now rows) n ⌝ }
     requires { ⌜ (8 ≤ cap) × (cap ≤ maxLogBytes) ⌝ }
     ensures { λ r. ⌜ (r ≡ fitting (leave delete) 8 cap (unpack n (now (rows .entry))) (view setup (now (store .entry)) (now (lens .entry))))
-        × Marked delete (allRows setup) (now (lens .entry)) (now (lens .exit)) ⌝ }
+        × Counted delete setup (now (store .entry)) (now (lens .entry)) (now (lens .exit)) ⌝ }
 {
-    let all = layout::rows(setup);
+    let all = marks::places(setup);
     let mut used: usize = 8;
     let mut i: usize = 0;
     while i < n {
         let info = rows::tc_info(rows, n, i);
-        let row = layout::row_of(setup, info.addr);
-        let len = bytes_left(lens, all, row);
+        let place = marks::place_of(setup, info.addr);
+        let len = marks::bytes_left(setup, lens, all, place);
         let next = used + 21 + len;
         if cap < next {
             return i;
         }
-        mark(lens, all, row, delete);
+        mark(setup, lens, all, place, delete);
         used = next;
         i += 1;
     }
     i
-}
-
-// A length without its mark.
-fn bare_of(w: u16) -> u16
-    ensures { λ r. ⌜ r ≡ bare w ⌝ }
-{
-    if w < MARK {
-        return w;
-    }
-    if w == STORE_FREE {
-        return w;
-    }
-    w - MARK
-}
-
-// Takes the marks off the first n lengths.
-fn unmark(lens: &mut [u16], n: usize)
-    requires { ⌜ n ≤ length (now lens) ⌝ }
-    ensures { λ _. ⌜ Unmarked n (now (lens .entry)) (now (lens .exit)) ⌝ }
-{
-    let mut i: usize = 0;
-    while i < n {
-        lens[i] = bare_of(lens[i]);
-        i += 1;
-    }
 }
 
 // How many of the first n rows fit into cap bytes. The length table is as it was.
@@ -131,6 +77,6 @@ pub fn measure(
     if !delete {
         return m;
     }
-    unmark(lens, layout::rows(setup));
+    marks::unmark(setup, lens);
     m
 }

@@ -1,7 +1,6 @@
 -- `measure::mark_fitting` meets its contract.
 use Prim.Native.Nat.{_-_}
-use Rattle.measure.proofs.Measuring.{Measuring, measuring-first, measuring-last, measuring-long, measuring-next, measuring-stop}
-use Rattle.layout.proofs.Layouts.{setup-few}
+use Rattle.measure.proofs.Measuring.{Measuring, measuring-first, measuring-last, measuring-marks, measuring-next, measuring-stop}
 use native.Mathlib.Omega.{arith}
 use borrow.Author.Needs.{needs}
 use Rattle.measure.proofs.mark_fitting.Statement.{statement}
@@ -13,8 +12,8 @@ Inv-loop setup store lens₀ rows n cap delete all used₀ i₀ lens used i = Me
 abbrev μ-loop : tie.MeasureT-loop
 μ-loop setup store lens₀ rows n cap delete all used₀ i₀ lens used i = n - i
 
-rows-requires : tie.Need-rows-requires Inv-loop μ-loop
-rows-requires c κs = setup-few _ (c .before .before .before .pre .0 .setup)
+places-requires : tie.Need-places-requires Inv-loop μ-loop
+places-requires c κs = c .before .before .before .pre .0 .setup
 
 loop-holds : tie.Need-loop-holds Inv-loop μ-loop
 loop-holds c = let s = c .before .before .before .before .pre in measuring-first _ _ _ _ _ _ _ (s .0) (s .1 .1 .0)
@@ -22,13 +21,13 @@ loop-holds c = let s = c .before .before .before .before .pre in measuring-first
 tc-info-requires : tie.Need-tc-info-requires Inv-loop μ-loop
 tc-info-requires c κs = (c .before .before .before .before .before .before .pre .1 .0, c .loop-test .taken)
 
-row-of-requires : tie.Need-row-of-requires Inv-loop μ-loop
-row-of-requires c κs = setup-few _ (c .before .before .before .before .before .before .before .pre .0 .setup)
+place-of-requires : tie.Need-place-of-requires Inv-loop μ-loop
+place-of-requires c κs = c .before .before .before .before .before .before .before .pre .0 .setup
 
 bytes-left-requires : tie.Need-bytes-left-requires Inv-loop μ-loop
 bytes-left-requires c κs =
     let l = c .before .before .before .before in
-    omega (arith, l .before .rows .ensures, measuring-long _ _ _ _ _ _ _ _ _ _ (l .loop .inv) (l .before .before .before .before .before .pre .0))
+    (l .before .places .ensures, measuring-marks _ _ _ _ _ _ _ _ _ _ (l .loop .inv))
 
 add-next : tie.Need-add-next Inv-loop μ-loop
 add-next c =
@@ -38,25 +37,25 @@ add-next c =
 add-next-2 : tie.Need-add-next-2 Inv-loop μ-loop
 add-next-2 c =
     let l = c .before .before .before .before .before in
-    omega (arith, l .loop .inv .fits, l .before .before .before .before .before .pre .1 .1 .1, c .bytes-left .ensures .1)
+    omega (arith, l .loop .inv .fits, l .before .before .before .before .before .pre .1 .1 .1, c .bytes-left .ensures .short)
 
 same-length : tie.Need-same-length Inv-loop μ-loop
-same-length c = c .before .before .before .before .before .before .loop .inv .marks .same-length
+same-length c = c .before .before .before .before .before .before .loop .inv .counted .marks .same-length
 
 returns : tie.Need-returns Inv-loop μ-loop
 returns c =
     let d = c .before in
     let l = d .before .before .before .before .before in (
-      measuring-stop _ _ _ _ _ _ _ _ _ _ (l .loop .inv) _ _ _ _
-          (d .before .before .before .tc-info .ensures .1) (d .before .before .row-of .ensures) (l .before .rows .ensures) (d .bytes-left .ensures .0)
+      measuring-stop _ _ _ _ _ _ _ _ _ _ (l .loop .inv) _ _ _
+          (d .before .before .before .tc-info .ensures .1) (d .before .before .place-of .ensures) (d .bytes-left .ensures)
           (d .before .before .before .before .loop-test .taken) (c .if1 .taken),
-      l .loop .inv .marks,
+      l .loop .inv .counted,
     )
 
 mark-requires : tie.Need-mark-requires Inv-loop μ-loop
 mark-requires c κs =
     let l = c .before .before .before .before .before .before .before in
-    omega (arith, l .before .rows .ensures, measuring-long _ _ _ _ _ _ _ _ _ _ (l .loop .inv) (l .before .before .before .before .before .pre .0))
+    (l .before .places .ensures, measuring-marks _ _ _ _ _ _ _ _ _ _ (l .loop .inv))
 
 add-i : tie.Need-add-i Inv-loop μ-loop
 add-i c = search needs
@@ -68,17 +67,17 @@ loop-again : tie.Need-loop-again Inv-loop μ-loop
 loop-again c =
     let d = c .before .before .before .before .before in
     let l = d .before .before .before .before .before in
-    measuring-next _ _ _ _ _ _ _ _ _ _ (l .loop .inv) _ _ _ _
-    (d .before .before .before .tc-info .ensures .1) (d .before .before .row-of .ensures) (l .before .rows .ensures) (d .bytes-left .ensures .0)
-    (l .before .before .before .before .before .pre .0) (d .before .before .before .before .loop-test .taken)
+    measuring-next _ _ _ _ _ _ _ _ _ _ (l .loop .inv) _ _ _
+    (d .before .before .before .tc-info .ensures .1) (d .before .before .place-of .ensures) (d .bytes-left .ensures)
+    (d .before .before .before .before .loop-test .taken)
     (c .before .before .before .before .if1 .left)
     _ (c .before .before .mark .ensures)
 
 same-length-2 : tie.Need-same-length-2 Inv-loop μ-loop
-same-length-2 c = c .before .loop .inv .marks .same-length
+same-length-2 c = c .before .loop .inv .counted .marks .same-length
 
 returns-2 : tie.Need-returns-2 Inv-loop μ-loop
-returns-2 c = (measuring-last _ _ _ _ _ _ _ _ _ _ (c .before .loop .inv) (c .loop-test .left), c .before .loop .inv .marks)
+returns-2 c = (measuring-last _ _ _ _ _ _ _ _ _ _ (c .before .loop .inv) (c .loop-test .left), c .before .loop .inv .counted)
 
 pub mark-fitting-spec : {M : Type 1} → statement M
 mark-fitting-spec =
@@ -86,10 +85,10 @@ mark-fitting-spec =
     (tie.spec
     Inv-loop
     μ-loop
-    rows-requires
+    places-requires
     loop-holds
     tc-info-requires
-    row-of-requires
+    place-of-requires
     bytes-left-requires
     add-next
     add-next-2

@@ -1,14 +1,14 @@
--- `measure::bare_of` meets its contract.
-use Rattle.measure.proofs.Unmarking.{bare-free, bare-low, bare-word}
+-- `marks::bare_of` meets its contract.
+use Rattle.marks.proofs.Unmarking.{bare-free, bare-low, bare-word}
 use native.Mathlib.Omega.{arith}
-use Rattle.measure.proofs.bare_of.Statement.{statement}
-use Rattle.measure.proofs.bare_of.Tie as tie
+use Rattle.marks.proofs.bare_of.Statement.{statement}
+use Rattle.marks.proofs.bare_of.Tie as tie
 
 returns : tie.Need-returns
 returns c = bare-low _ (omega arith)
 
 returns-2 : tie.Need-returns-2
-returns-2 c = bare-free _ (c .if2 .taken)
+returns-2 c = bare-free _ (omega arith)
 
 returns-3 : tie.Need-returns-3
 returns-3 c = bare-word _ (omega arith) (c .if2 .left) (omega arith)

@@ -1,0 +1,4 @@
+-- Packets marked as handed out.
+pub mod Marks
+pub mod Promise
+pub mod Inside
