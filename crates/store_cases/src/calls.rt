@@ -1,7 +1,6 @@
 // Lines that change what is lent: the store's own calls, and damage.
 use crate::command;
 use layout::Setup;
-use slots::bytes;
 use store::Added;
 use text::line;
 use text::out;
@@ -120,11 +119,14 @@ fn modify(setup: Setup, text: &[u8], store: &mut [u8], lens: &[u16]) {
 
 fn write(part: &mut [u8], given: &[u8]) {
     let n = part.len();
-    if given.len() < n {
-        bytes::copy_in(part, given);
-        return;
+    let mut i: usize = 0;
+    while i < n {
+        if i >= given.len() {
+            return;
+        }
+        part[i] = given[i];
+        i += 1;
     }
-    bytes::copy_in(part, &given[..n]);
 }
 
 // The same in one call.
