@@ -11,3 +11,7 @@ poolOf a = a / 65536 % 256
 
 abbrev pub slotOf : ℕ → ℕ
 slotOf a = a % 256
+
+-- `INVALID_ADDR`, which belongs to the address type: subpool 255, slot 255
+abbrev pub invalidAddr : ℕ
+invalidAddr = 0xFFFFFFFF

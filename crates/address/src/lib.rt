@@ -1,6 +1,7 @@
 // The store address: how subpool and slot are put into one number, and which of its bits are read.
 ghost use mathlib.Core.Path.{_≡_};
-ghost use Rattle.address.specs.Address.{addressOf, poolOf, slotOf};
+ghost use lib.Dec.{eqb};
+ghost use Rattle.address.specs.Address.{addressOf, invalidAddr, poolOf, slotOf};
 
 pub struct StaticPoolAddr {
     pub pool_idx: u16,
@@ -8,7 +9,14 @@ pub struct StaticPoolAddr {
 }
 
 impl StaticPoolAddr {
+    // What a caller keeps where there is no address: no setup has the subpool that it names.
     pub const INVALID_ADDR: u64 = 0xFFFF_FFFF;
+
+    pub fn is_invalid(addr: u64) -> bool
+        ensures { λ r. ⌜ r ≡ eqb addr invalidAddr ⌝ }
+    {
+        addr == StaticPoolAddr::INVALID_ADDR
+    }
 
     pub fn decode(addr: u64) -> StaticPoolAddr
         ensures { λ r. ⌜ (r .«pool_idx» ≡ poolOf addr) × (r .«packet_idx» ≡ slotOf addr) ⌝ }

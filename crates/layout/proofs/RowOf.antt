@@ -1,9 +1,10 @@
 -- The row of an address: the cases of its rule, and whose row a row is.
 use Prim.Native.Nat.{_+_, _-_, _<_, _≤_, suc, zero, ℕ}
-use Rattle.address.specs.Address.{poolOf, slotOf}
+use Rattle.address.specs.Address.{invalidAddr, poolOf, slotOf}
 use Rattle.layout.proofs.Cases.{SlotCase, has-slot, no-pool, no-slot, slot-case}
 use Rattle.layout.proofs.Layouts.{rows-within}
 use Rattle.layout.specs.Layout.{allRows, rowOf, rowsBefore, slotsAt}
+use Rattle.layout.specs.Limits.{maxSubpools}
 use Rattle.rules.specs.Tests.{unless}
 use borrow.Author.Tests.{le-ltb, lt-ltb, ltb-false, ltb-true}
 use lib.Dec.{ltb}
@@ -42,6 +43,10 @@ module _ (su : Setup) (a : ℕ) where
       go (no-pool l) = absurd (omega (arith, row-no-pool l))
       go (no-slot l m) = absurd (omega (arith, row-no-slot l m))
       go (has-slot l m) = record { pool = l; slot = m }
+
+-- INVALID_ADDR names no slot, whatever the setup
+pub invalid-no-row : (su : Setup) → su .pools ≤ maxSubpools → rowOf su invalidAddr ≡ allRows su
+invalid-no-row su l = row-no-pool su invalidAddr (omega arith)
 
 -- copies of the decoded numbers, as the search has them
 module _ (su : Setup) (a k s r : ℕ) (p : k ≡ poolOf a) (q : s ≡ slotOf a) where

@@ -34,6 +34,10 @@ pub fn run(
         modify(setup, text, store, lens);
         return;
     }
+    if k == command::MODIFY_WITH {
+        modify_with(setup, text, store, lens);
+        return;
+    }
     damage(k, text, store, lens, buf);
 }
 
@@ -101,14 +105,37 @@ fn delete(setup: Setup, text: &[u8], store: &mut [u8], lens: &mut [u16]) {
     shown::deleted(store_public::delete(setup, store, lens, line::number(text, 1)));
 }
 
-// The part that is lent for changes gets bytes 5.
+// Given bytes are written through the part that is lent, as many as it has.
 fn modify(setup: Setup, text: &[u8], store: &mut [u8], lens: &[u16]) {
     let addr = line::number(text, 1);
+    let mut given = [0u8; 64];
+    let n = line::bytes(text, 3, &mut given);
     out::say(b": ");
     shown::length(store_public::modify(setup, store, lens, addr));
     let part = store_public::modify_part(setup, store, lens, addr);
     out::number(b", lent ", part.len() as u64);
-    set(5, part);
+    write(part, &given[..n]);
+}
+
+fn write(part: &mut [u8], given: &[u8]) {
+    let n = part.len();
+    let mut i: usize = 0;
+    while i < n {
+        if i >= given.len() {
+            return;
+        }
+        part[i] = given[i];
+        i += 1;
+    }
+}
+
+// The same in one call.
+fn modify_with(setup: Setup, text: &[u8], store: &mut [u8], lens: &[u16]) {
+    let addr = line::number(text, 1);
+    let mut given = [0u8; 64];
+    let n = line::bytes(text, 3, &mut given);
+    out::say(b": ");
+    shown::length(modifying::modify_with(setup, store, lens, addr, &given[..n]));
 }
 
 fn set(v: u8, part: &mut [u8]) {

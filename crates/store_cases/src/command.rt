@@ -15,32 +15,34 @@ pub const DELETE: usize = 5;
 
 pub const MODIFY: usize = 6;
 
-pub const BYTES: usize = 7;
+pub const MODIFY_WITH: usize = 7;
 
-pub const LENGTHS: usize = 8;
+pub const BYTES: usize = 8;
 
-pub const LENGTH: usize = 9;
+pub const LENGTHS: usize = 9;
 
-pub const ASKING: usize = 10;
+pub const LENGTH: usize = 10;
 
-pub const READ: usize = 10;
+pub const ASKING: usize = 11;
 
-pub const JUDGE: usize = 11;
+pub const READ: usize = 11;
 
-pub const ADDRESS: usize = 12;
+pub const JUDGE: usize = 12;
 
-pub const GOOD: usize = 13;
+pub const ADDRESS: usize = 13;
 
-pub const SUBPOOL: usize = 14;
+pub const GOOD: usize = 14;
 
-pub const DECODE: usize = 15;
+pub const SUBPOOL: usize = 15;
 
-pub const SHOW: usize = 16;
+pub const DECODE: usize = 16;
+
+pub const SHOW: usize = 17;
 
 pub fn of(text: &[u8]) -> usize {
     line::which(
         text,
         0,
-        b"Setup Lend start add fill delete modify Bytes Lengths Length read judge address good subpool decode Show",
+        b"Setup Lend start add fill delete modify modify_with Bytes Lengths Length read judge address good subpool decode Show",
     )
 }

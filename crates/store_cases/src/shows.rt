@@ -80,6 +80,9 @@ fn decode(addr: u64) {
     out::number(b": address ", addr);
     out::number(b", subpool ", a.pool_idx as u64);
     out::number(b", slot ", a.packet_idx as u64);
+    if StaticPoolAddr::is_invalid(addr) {
+        out::say(b", invalid");
+    }
 }
 
 // Bytes of the store, lengths or bytes of the buffer, from one place to another.

@@ -1,12 +1,15 @@
 -- Document 01's worked lines marked T, in its order, as one table, and one statement over it: each comes of the definitions.
-use Prim.Native.Nat.{ℕ}
-use lib.ListN.{replicate}
+use Prim.Native.Nat.{_-_, ℕ}
+use lib.ListN.{length, replicate}
 use mathlib.Core.Bool.{Bool, false, true}
 use mathlib.Core.List.{List, [], _++_, _∷_}
 use mathlib.Core.Path.{_≡_, refl}
 use lib.IntN.{negsuc, pos}
 use Rattle.check_code.specs.CheckCode.{checkCode, feed, shift}
 use Rattle.log.specs.Log.{logBytes, offsets, recordBytes, records, total}
+use Rattle.packet.specs.Packet.{idOf, idWord, readOf}
+use Rattle.packet_tests.specs.Tests.{checkBytes, headerBits, totalInBounds, versionNibble}
+use Rattle.rows.specs.Entries.{Entry}
 use Rattle.rules.specs.Papers.{after, no, says}
 use Rattle.rules.specs.Tests.{allOf, unless}
 use Rattle.schedule.specs.State.{State}
@@ -18,6 +21,8 @@ use Rattle.tick.specs.Tick.{firstLacks, handedOut, tickIn}
 use Rattle.turn.specs.Turns.{handout, leave}
 use Rattle.time.specs.Time.{earliest, far, inTimeMargin, instant}
 use Rattle.words.specs.Words.{bytesOf, number}
+use Rattle.packet.specs.declared.Reading.{Reading}
+use Rattle.packet.specs.declared.Reading.the-variants.{Packet, Unreadable}
 use Rattle.stamp.specs.declared.Stamp.{Stamp}
 use Rattle.stamp.specs.declared.Stamp.the-variants.{At, Refused}
 use Rattle.time.specs.declared.Margin.{Margin}
@@ -37,23 +42,10 @@ pub data Line : Type 0 where
   decode : ℕ → ℕ → ℕ → Line
   -- bytes, and their check code
   code : List ℕ → ℕ → Line
-  -- a tick with limit 1 that keeps packets, over a scheduler and a log: the log's bytes afterwards; or 20, and the bytes needed
-  logs : State → List ℕ → List ℕ → Line
-  lacks : State → List ℕ → ℕ → Line
-
-abbrev pub Holds : Line → Type 0
-Holds (stamp s r) = stampOf s ≡ r
-Holds (early c m r b) = inTimeMargin c m r ≡ b
-Holds (first c m r) = earliest c m ≡ instant r
-Holds (encode k i a) = addressOf k i ≡ a
-Holds (decode a k i) = (poolOf a ≡ k) × (slotOf a ≡ i)
-Holds (code s n) = checkCode s ≡ n
-Holds (logs s log bytes) = after (tickIn 1 false log s) [] (λ x. x .log) ≡ bytes
-Holds (lacks s log n) = says (tickIn 1 false log s) ≡ no 20 (n ∷ [])
-
-abbrev pub Every : List Line → Type 0
-Every [] = Unit {0}
-Every (l ∷ ls) = Holds l × Every ls
+  -- a packet, and a log: a tick with limit 1 that keeps packets, over a scheduler that holds this packet alone, at address 1, due under
+  -- the request ID that it is read with. The log's bytes afterwards; or 20, and the bytes needed
+  logs : List ℕ → List ℕ → List ℕ → Line
+  lacks : List ℕ → List ℕ → ℕ → Line
 
 -- seconds and nanoseconds; `before n` is -(n + 1) s
 abbrev at : ℕ → ℕ → UnixTime
@@ -65,23 +57,43 @@ before n = record { secs = negsuc n; nanos = 0 }
 abbrev margin : ℕ → ℕ → Margin
 margin s n = record { secs = s; nanos = n }
 
+-- the entry of a packet at address 1, due at 0 s, by what the packet's bytes are read as: its request ID is the header's. What is no
+-- packet has no entry
+abbrev entryRead : Reading → List Entry
+entryRead (Packet h) = record { secs = far; nanos = 0; id = idWord (idOf h); addr = 1 } ∷ []
+entryRead (Unreadable f) = []
+
+-- a packet of at most 16 bytes in slot 1 of 2, its entry alone due; enabled, clock 0
+abbrev holding : List ℕ → State
+holding p =
+    record {
+      pools = record { size = 16; slots = free (replicate 16 0) ∷ taken (length p) (p ++ replicate (16 - length p) 0) ∷ [] } ∷ [];
+      entries = entryRead (readOf 2 p);
+      clock = at 0 0;
+      margin = margin 0 0;
+      enabled = true;
+    }
+
+abbrev pub Holds : Line → Type 0
+Holds (stamp s r) = stampOf s ≡ r
+Holds (early c m r b) = inTimeMargin c m r ≡ b
+Holds (first c m r) = earliest c m ≡ instant r
+Holds (encode k i a) = addressOf k i ≡ a
+Holds (decode a k i) = (poolOf a ≡ k) × (slotOf a ≡ i)
+Holds (code s n) = checkCode s ≡ n
+Holds (logs p log bytes) = after (tickIn 1 false log (holding p)) [] (λ x. x .log) ≡ bytes
+Holds (lacks p log n) = says (tickIn 1 false log (holding p)) ≡ no 20 (n ∷ [])
+
+abbrev pub Every : List Line → Type 0
+Every [] = Unit {0}
+Every (l ∷ ls) = Holds l × Every ls
+
 -- P and its check bytes
 abbrev headOfP : List ℕ
 headOfP = 0x18 ∷ 0x02 ∷ 0xC0 ∷ 0x11 ∷ 0x00 ∷ 0x06 ∷ 0x2F ∷ 0x11 ∷ 0x01 ∷ 0x00 ∷ 0x00 ∷ []
 
 abbrev packetP : List ℕ
 packetP = headOfP ++ bytesOf 2 (checkCode headOfP)
-
--- P at address 1, its entry alone due: APID 2, sequence count 17; enabled, clock 0
-abbrev holdsP : State
-holdsP =
-    record {
-      pools = record { size = 16; slots = free (replicate 16 0) ∷ taken 13 (packetP ++ replicate 3 0) ∷ [] } ∷ [];
-      entries = record { secs = far; nanos = 0; id = 0x20011; addr = 1 } ∷ [];
-      clock = at 0 0;
-      margin = margin 0 0;
-      enabled = true;
-    }
 
 abbrev pub lines : List Line
 lines =
@@ -102,14 +114,14 @@ lines =
     decode 256 0 0 ∷
     -- check code of the ASCII digits 1 to 9: 0x29B1
     code (49 ∷ 50 ∷ 51 ∷ 52 ∷ 53 ∷ 54 ∷ 55 ∷ 56 ∷ 57 ∷ []) 0x29B1 ∷
-    -- P at address 1, enabled, alone due: 42 bytes, and those behind them stay. A 41-byte log gets 20 with 42
-    logs holdsP (replicate 43 7)
+    -- P at address 1, enabled, alone due: 42 bytes, its request ID as P is read, and those behind them stay. A 41-byte log gets 20 with 42
+    logs packetP (replicate 43 7)
     ((0 ∷ 0 ∷ 0 ∷ 1 ∷ 0 ∷ 0 ∷ 0 ∷ 0x2A ∷ 0 ∷ 0 ∷ 0 ∷ 0x0C ∷ 1 ∷ 0 ∷ 0 ∷ 0 ∷ 0 ∷ 0 ∷ 2 ∷ 0 ∷ 0x11 ∷ 0 ∷ 0 ∷ 0 ∷ 0 ∷ 0 ∷ 0 ∷ 0 ∷ 1 ∷
     []) ++ packetP ++ (7 ∷ [])) ∷
-    lacks holdsP (replicate 41 7) 42 ∷
+    lacks packetP (replicate 41 7) 42 ∷
     []
 
 pub worked : Every lines
-unfolding after allOf below bytesOf checkCode feed findAt firstLacks handedOut handout leave logBytes number offsets recordBytes
-    records says shift stampAt stampOf tickIn total unless
+unfolding after allOf below bytesOf checkBytes checkCode feed findAt firstLacks handedOut handout headerBits leave logBytes number offsets
+    readOf recordBytes records says shift stampAt stampOf tickIn total totalInBounds unless versionNibble
 worked = (refl, (refl, (refl, (refl, (refl, (refl, (refl, (refl, (refl, ((refl, refl), (refl, (refl, (refl, tt)))))))))))))
