@@ -3,3 +3,5 @@ pub mod FaceParts
 pub mod FaceKeeping
 pub mod FaceAgreeing
 pub mod FaceKeepable
+pub mod FaceParting
+pub mod FaceFollowing

@@ -1,12 +1,13 @@
 -- The demands over calls of the C face: every call returns 0 or a number of the table and a refusal changes nothing, the promises allow exactly
 -- one result, a sequence of calls answers as the definitions say and is never damaged, and room never changes an answer.
 use Prim.Native.Nat.{_<_, _≤_, ℕ}
-use Rattle.demands.specs.Calling.{lentTo}
+use Rattle.demands.specs.Calling.{Runs, lentTo}
 use Rattle.demands.specs.Following.{stands}
 use Rattle.face.specs.Face.{roomy}
+use Rattle.face.specs.RecordFace.{longEnough}
 use Rattle.face_demands.specs.FaceCalling.{Asked, FaceAnswer, FaceBegins, FaceCall, FaceLent, FacePromised, FaceRequest, FaceRuns}
 use Rattle.face_demands.specs.FaceStanding.{allTold, callOf, partAt, requestsOf, standsFor}
-use Rattle.face_reading.specs.Reading.{setupFrom}
+use Rattle.face_reading.specs.Reading.{setupFrom, wellCounted}
 use Rattle.face_words.specs.Padding.{answerWords}
 use Rattle.room.specs.Room.{EveryNamed, Roomier, Spills, strike}
 use Rattle.rules.specs.Papers.{no}
@@ -65,13 +66,29 @@ FaceRunsAgree =
     (sw : List ℕ) (qs : List Asked) (t : FaceLent) (xs ys : List FaceAnswer) (u v : FaceLent) → FaceRuns sw qs t xs u → FaceRuns sw qs t ys v →
     (xs ≡ ys) × (u ≡ v)
 
--- Demand 2 over sequences, after a fresh start that returned 0: numbers, words and buffers are those that tell the definitions' answers, and
--- what is lent stands in the end for the state that the definitions leave. Each call is lent an answer of 8 words at least (with fewer it is
--- answered 2 and changes nothing), and a wrapped packet is one of bytes, as every lent slice of bytes is by its type
+-- What the calls do is what their requests do over what the words stand for. Each is lent an answer of 8 words at least: with fewer it is
+-- answered 2 and changes nothing
 abbrev pub AllRoomy : List Asked → Type 0
 AllRoomy [] = Unit {0}
 AllRoomy (q ∷ qs) = (roomy (q .answer) ≡ true) × AllRoomy qs
 
+pub record FaceRunsStand (sw : List ℕ) (qs : List Asked) (t : FaceLent) (xs : List FaceAnswer) (u : FaceLent) : Type 0 where
+  pub answers : List Answer
+  pub told : xs ≡ allTold sw qs answers
+  pub runs : Runs (setupFrom sw) (requestsOf qs) (standsFor t) answers (standsFor u)
+
+unfoldable pub WordsStand : Type 0
+WordsStand =
+    (sw : List ℕ) (qs : List Asked) (t : FaceLent) (xs : List FaceAnswer) (u : FaceLent) →
+    wellCounted sw ≡ true →
+    longEnough (t .rec) ≡ true →
+    AllRoomy qs →
+    FaceRuns sw qs t xs u →
+    FaceRunsStand sw qs t xs u
+
+-- Demand 2 over sequences, after a fresh start that returned 0: numbers, words and buffers are those that tell the definitions' answers, and
+-- what is lent stands in the end for the state that the definitions leave. A wrapped packet is one of bytes, as every lent slice of bytes is by
+-- its type
 pub record FaceAsTheModel (sw : List ℕ) (clock : UnixTime) (margin : Margin) (qs : List Asked) (given : List FaceAnswer) (end : FaceLent)
     : Type 0 where
   pub answers : given ≡ allTold sw qs (run (setupFrom sw) (requestsOf qs) (freshState (setupFrom sw) clock margin) .answers)
