@@ -42,7 +42,7 @@ record FaceStands (sw : List ℕ) (q : Asked) (t : FaceLent) (x : FaceAnswer) (u
   rec : longEnough (u .rec) ≡ true
 
 -- a record's words that are written are as many as they were
-left-long : {A : Type 0} (o : Outcome A) (ws : List ℕ) (f : A → List ℕ) → ((y : A) → longEnough (f y) ≡ true) → longEnough ws ≡ true
+pub left-long : {A : Type 0} (o : Outcome A) (ws : List ℕ) (f : A → List ℕ) → ((y : A) → longEnough (f y) ≡ true) → longEnough ws ≡ true
     → longEnough (after o ws f) ≡ true
 unfolding after
 left-long (refused p) ws f g h = h

@@ -1,21 +1,25 @@
 -- Every promise of the C face can be kept, whatever is lent, of one call and of any number of calls.
 use Prim.Native.Nat.{ℕ}
-use Rattle.face.specs.Face.{answered}
+use Rattle.face.specs.Face.{answered, answering}
 use Rattle.face.specs.RecordFace.{clockWritten, markWritten}
-use Rattle.face.specs.ScheduleFace.{allWritten, countWritten, resetWritten}
+use Rattle.face.specs.ScheduleFace.{allWritten, countWritten, scheduleCall}
 use Rattle.face_demands.specs.FaceCalling.{Asked, FaceAnswer, FaceCalls, FaceLent, FaceLooks, FacePromised, FaceRecords, FaceRequest, FaceRuns, FaceSchedules, FaceStores, callerWrites, count, deleteById, deleteByIdKeep, deleteWindow, disable, enable, fresh, insertStored, insertUnwrapped, insertWrapped, ofRecord, ofSchedule, ofStart, ofStore, request, reset, setClock, storeAdd, storeDelete, storeHas, storeLen, storeModify, storePart, storeRead, tick, window}
-use Rattle.face_demands.specs.FaceDemands.{FaceResult, FaceRunsExist, FaceRunsTo, SomeFaceOutcome}
+use Rattle.face_demands.specs.FaceDemands.{FaceResult, FaceRunsExist, FaceRunsTo, FaceStartsExist, SomeFaceOutcome}
 use Rattle.face_reading.specs.Reading.{storeSetup, word}
 use Rattle.face.specs.StoreFace.{partIn}
 use Rattle.reading.specs.Reading.{readIn}
 use Rattle.record.specs.declared.Record.{Record}
 use Rattle.rows.specs.Entries.{relaid}
+use Rattle.face_words.specs.Padding.{answerWords}
 use Rattle.rules.specs.Papers.{Outcome, after, says}
+use Rattle.rules.specs.Tests.{unless}
+use Rattle.starting.specs.Starting.{startIn}
 use Rattle.schedule.specs.State.{State}
 use Rattle.slots.specs.Pools.{Pool}
 use Rattle.slots.specs.View.{lensWith, storeWith}
 use Rattle.tick.specs.Promise.{left as through}
 use Rattle.tick.specs.Tick.{Logged, tickIn}
+use lib.ListN.{replicate}
 use mathlib.Core.List.{List, [], _∷_}
 use mathlib.Core.Path.{refl}
 
@@ -134,3 +138,19 @@ run-of sw (q ∷ qs) t =
 pub face-runs-exist : FaceRunsExist
 unfolding FaceRunsExist
 face-runs-exist sw qs t = run-of sw qs t
+
+pub face-starts-exist : FaceStartsExist
+unfolding FaceStartsExist FacePromised scheduleCall answering startIn unless says
+face-starts-exist sw clock margin t w l a b c d =
+    let an : List ℕ = replicate answerWords 0 in
+    let o : Outcome State = ofStart sw an t clock margin in
+    record {
+      fresh = leaves sw an t (word sw 2) o (allWritten (t .rec));
+      begins =
+          record {
+            lent = an;
+            answer = tells sw an t o [];
+            starts = schedules sw an t (word sw 2) o (allWritten (t .rec));
+            not-refused = rw (w, l, a, b, c, d);
+          };
+    }

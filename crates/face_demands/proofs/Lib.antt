@@ -5,3 +5,4 @@ pub mod FaceAgreeing
 pub mod FaceKeepable
 pub mod FaceParting
 pub mod FaceFollowing
+pub mod FaceSequences

@@ -12,9 +12,11 @@ use Rattle.face_words.specs.Padding.{answerWords}
 use Rattle.room.specs.Room.{EveryNamed, Roomier, Spills, strike}
 use Rattle.rules.specs.Papers.{no}
 use Rattle.rules.specs.Tests.{unless}
+use Rattle.schedule.specs.Judge.{buffersOk, setupOk}
 use Rattle.scheduler.specs.Fits.{AllOfBytes}
 use Rattle.scheduler.specs.Steps.{Answer, run}
 use Rattle.starting.specs.Starting.{freshState}
+use Rattle.time.specs.Time.{inRange, marginInRange}
 use Rattle.time.specs.declared.Margin.{Margin}
 use Rattle.time.specs.declared.UnixTime.{UnixTime}
 use lib.Dec.{eqb}
@@ -54,6 +56,22 @@ pub record FaceRunsTo (sw : List ℕ) (qs : List Asked) (t : FaceLent) : Type 0 
 
 unfoldable pub FaceRunsExist : Type 0
 FaceRunsExist = (sw : List ℕ) (qs : List Asked) (t : FaceLent) → FaceRunsTo sw qs t
+
+-- and a fresh start with as many words as it must have, a fine setup, tables of its size, a clock and a margin in range returns 0
+pub record FaceBeginsWith (sw : List ℕ) (clock : UnixTime) (margin : Margin) (t : FaceLent) : Type 0 where
+  pub fresh : FaceLent
+  pub begins : FaceBegins sw clock margin t fresh
+
+unfoldable pub FaceStartsExist : Type 0
+FaceStartsExist =
+    (sw : List ℕ) (clock : UnixTime) (margin : Margin) (t : FaceLent) →
+    wellCounted sw ≡ true →
+    longEnough (t .rec) ≡ true →
+    setupOk (setupFrom sw) ≡ true →
+    buffersOk (setupFrom sw) (length (t .store)) (length (t .lens)) (length (t .rows)) ≡ true →
+    inRange clock ≡ true →
+    marginInRange margin ≡ true →
+    FaceBeginsWith sw clock margin t
 
 -- The promises determine the number, the answer's words, the buffer and all that is lent afterwards: of one call, and of any number of calls
 unfoldable pub OneFaceOutcome : Type 0
