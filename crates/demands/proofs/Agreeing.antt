@@ -1,7 +1,7 @@
 -- The promises determine answer, record and every lent byte, of one call and of any number of calls, for anything lent.
 use Prim.Native.Nat.{ℕ}
 use Rattle.demands.proofs.Parts.{same-answer, same-lent}
-use Rattle.demands.specs.Calling.{Calls, ScheduleChanges, Lent, ScheduleLooks, RecordChanges, Modifies, Promised, ReadsInto, Runs, StartsOver, StoreChanges, StoreLooks, TicksOver, freshStart, request}
+use Rattle.demands.specs.Calling.{Calls, ScheduleChanges, Lent, ScheduleLooks, RecordChanges, Promised, ReadsInto, Runs, StartsOver, StoreChanges, StoreLooks, TicksOver, freshStart, request}
 use Rattle.demands.specs.Demands.{OneOutcome, RunsAgree}
 use Rattle.record.specs.declared.Record.{Record}
 use Rattle.rules.specs.Papers.{Outcome}
@@ -62,14 +62,11 @@ module _ (su : Setup) (t : Lent) (x y : Answer) (u v : Lent) where
   reads a buf c d =
       (same-answer x y (c .read .answer ∙ sym (d .read .answer)) (c .read .buffer ∙ sym (d .read .buffer)), c .lent ∙ sym (d .lent))
 
-  modifies : (a : ℕ) (ys : List ℕ) → Modifies su t x u a ys → Modifies su t y v a ys → (x ≡ y) × (u ≡ v)
-  modifies a ys c d = (same-answer x y (c .answer ∙ sym (d .answer)) (c .buffer ∙ sym (d .buffer)), c .lent ∙ sym (d .lent))
-
   agree : (q : Request) → Calls su q t x u → Calls su q t y v → (x ≡ y) × (u ≡ v)
   unfolding Calls
   agree (add d) c e = store-changes _ c e
   agree (read a buf) c e = reads a buf c e
-  agree (modify a ys) c e = modifies a ys c e
+  agree (modify a ys) c e = store-changes _ c e
   agree (delete a) c e = store-changes _ c e
   agree (hasElementAt a) c e = store-looks _ c e
   agree (lenOfData a) c e = store-looks _ c e

@@ -36,7 +36,8 @@ module _ (su : Setup) (st le : List ℕ) (a : ℕ) where
         inside = (ap (λ (x : Cell). x .from) (k .is), omega arith, omega arith);
       }
 
-held-by : (a n : ℕ) (l : List ℕ) (x : Found) → done (n ∷ []) l ≡ ifHeld a x (λ m b. done (m ∷ []) (take m b))
+-- what is known where looking a packet up is done
+pub held-by : (a n : ℕ) (l : List ℕ) (x : Found) → done (n ∷ []) l ≡ ifHeld a x (λ m b. done (m ∷ []) (take m b))
     → (raw : List ℕ) × (x ≡ held n raw) × (take n raw ≡ l)
 unfolding ifHeld ifNamed
 held-by a n l noPool q = let z : _≡_ {A = ℕ} 0 1 = cc in absurd (omega arith)

@@ -28,9 +28,3 @@ module _ (ns ks : List ℕ) (s : State) (fits : Fit ns s) where
   unfolding through
   record-too (refused p) = refuses _ _ p
   record-too (done vs r) = answers _ _ vs (withRecord s r) (record { shaped = fits .shaped; named = fits .named })
-
-  -- the same state, whatever is answered
-  pub answer-too : {A : Type 0} (o : Outcome A) → AlikeStates ns ks (through (λ x. s) o) (through (λ x. grown ks s) o)
-  unfolding through
-  answer-too (refused p) = refuses _ _ p
-  answer-too (done vs x) = answers _ _ vs s fits

@@ -3,14 +3,13 @@ use Prim.Native.Nat.{_≤_, ℕ}
 use Rattle.room.proofs.Alike.{Alike, answer-stays, answered-too, refused-too}
 use Rattle.rules.proofs.Cases.{clash}
 use Rattle.room.proofs.Deleting.{by-id, keeping, resets, windows}
-use Rattle.room.proofs.Grow.{edit-grow, shape-edit}
 use Rattle.room.proofs.Inserting.{stored, unwrapped, wrapped}
-use Rattle.room.proofs.States.{AlikeStates, answer-too, pools-too, record-too}
-use Rattle.room.proofs.StoreCalls.{Placed, adds, deletes, has-grow, here, len-grow, packet-grow, read-grow}
+use Rattle.room.proofs.States.{AlikeStates, pools-too, record-too}
+use Rattle.room.proofs.StoreCalls.{Placed, adds, deletes, has-grow, len-grow, modifies, read-grow}
 use Rattle.room.proofs.Ticking.{grown-log, ticks}
 use Rattle.room.specs.Room.{AllNamed, Named, addresses}
-use Rattle.rules.specs.Papers.{Outcome, after, done, through, refused, says}
-use Rattle.schedule.specs.State.{State, recordOf, withPools}
+use Rattle.rules.specs.Papers.{Outcome, after, done, refused, says}
+use Rattle.schedule.specs.State.{State, recordOf}
 use Rattle.schedule.specs.declared.Setup.{Setup}
 use Rattle.counting.specs.Counting.{countIn}
 use Rattle.windows.specs.Windowing.{retrieveIn}
@@ -18,13 +17,11 @@ use Rattle.windows.specs.declared.TimeWindow.{TimeWindow}
 use Rattle.record.specs.Record.{clockIn, markIn}
 use Rattle.scheduler.specs.Steps.{Request, add, carried, count, delete, deleteById, deleteKeeping, deleteWindow, disable, enable, hasElementAt, insertStored, insertUnwrapped, insertWrapped, lenOfData, looked, modify, read, reset, retrieve, setClock, step, tick, ticked}
 use Rattle.tick.specs.Tick.{Logged}
-use Rattle.lookup.specs.Calls.{packetIn}
-use Rattle.room.specs.Grown.{Fit, Good, Narrow, Slotted, grow, grown, shape}
-use Rattle.store.specs.Edits.{edit, rewrite}
+use Rattle.room.specs.Grown.{Fit, Good, Narrow, Slotted, grown, shape}
 use lib.ListN.{length}
 use mathlib.Core.Bool.{false, true}
 use mathlib.Core.List.{List}
-use mathlib.Core.Path.{_∙_, _≡_, refl}
+use mathlib.Core.Path.{_≡_, refl}
 
 -- the entries alone are looked at
 counts : (ks : List ℕ) (s : State) → countIn (grown ks s) ≡ countIn s
@@ -60,16 +57,6 @@ module _ (ns ks : List ℕ) (s : State) (fits : Fit ns s) where
       → Good ns ks s (looked s o (after o buf (λ b. b))) (looked (grown ks s) o′ (after o′ buf (λ b. b)))
   reads o o′ buf e = rw e (looks o o _ _ refl refl)
 
-  modifies : (a : ℕ) (d : List ℕ) → Slotted ns a
-      → AlikeStates ns ks
-      (through (λ b. withPools (edit (rewrite d) (s .pools) a) s) (packetIn (s .pools) a))
-      (through (λ b. withPools (edit (rewrite d) (grow ks (s .pools)) a) (grown ks s)) (packetIn (grow ks (s .pools)) a))
-  modifies a d n =
-      rw (packet-grow ns ks (s .pools) (fits .shaped) a n, edit-grow (rewrite d) ks (s .pools) a (here ns ks (s .pools) (fits .shaped) a n))
-      (answer-too ns ks (withPools (edit (rewrite d) (s .pools) a) s)
-      (record { shaped = shape-edit (rewrite d) (s .pools) a ∙ fits .shaped; named = fits .named })
-      (packetIn (s .pools) a))
-
   module _ (su lu : Setup) (more : su .entries ≤ lu .entries) (off : su .store .spill ≡ false) (narrow : Narrow ns)
       (few : length ns ≤ 256) (named : (a : ℕ) → Named su a → Slotted ns a) where
     pub steps : (q : Request) → AllNamed su (addresses q) → Good ns ks s (step su q s) (step lu q (grown ks s))
@@ -78,7 +65,9 @@ module _ (ns ks : List ℕ) (s : State) (fits : Fit ns s) where
         carries _ _
         (pools-too ns ks s fits (Placed ns) (λ vs ps e. e .0) _ _ (adds ns ks (s .pools) (fits .shaped) narrow few d _ _ off))
     steps (read a buf) n = reads _ _ buf (read-grow ns ks (s .pools) (fits .shaped) a (named a (n .0)) buf)
-    steps (modify a d) n = carries _ _ (modifies a d (named a (n .0)))
+    steps (modify a d) n =
+        carries _ _
+        (pools-too ns ks s fits (λ vs ps. shape ps ≡ ns) (λ vs ps e. e) _ _ (modifies ns ks (s .pools) (fits .shaped) a (named a (n .0)) d))
     steps (delete a) n =
         carries _ _ (pools-too ns ks s fits (λ vs ps. shape ps ≡ ns) (λ vs ps e. e) _ _ (deletes ns ks (s .pools) (fits .shaped) a (named a (n .0))))
     steps (hasElementAt a) n = looks _ _ _ _ (has-grow ns ks (s .pools) (fits .shaped) a (named a (n .0))) refl

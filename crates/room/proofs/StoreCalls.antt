@@ -6,17 +6,17 @@ use Rattle.room.proofs.Grow.{edit-grow, editAt-grow, find-grow, shape-e
 use Rattle.room.specs.Room.{struck}
 use Rattle.rules.specs.Papers.{done, through}
 use Rattle.store.proofs.Chosen.{Open, choose-open}
-use Rattle.store.specs.Calls.{addIn, deleteIn, place}
-use Rattle.lookup.specs.Calls.{ifHeld, ifNamed, packetIn}
+use Rattle.store.specs.Calls.{addIn, deleteIn, modifyIn, place}
+use Rattle.lookup.specs.Calls.{ifHeld, ifNamed}
 use Rattle.presence.specs.Presence.{hasIn, lenIn}
 use Rattle.reading.specs.Reading.{readIn}
 use Rattle.room.specs.Grown.{Narrow, Slotted, grow, shape}
-use Rattle.slots.specs.Pools.{Choice, Found, Pool, allTaken, find, held, noPool, noSlot, tooLarge, vacant}
-use Rattle.store.specs.Edits.{edit, fill, wipe}
+use Rattle.slots.specs.Pools.{Choice, Found, Pool, Slot, allTaken, find, held, noPool, noSlot, tooLarge, vacant}
+use Rattle.store.specs.Edits.{edit, fill, rewrite, wipe}
 use Rattle.slots.specs.Pools as P
 use lib.ListN.{getD, length}
 use mathlib.Core.Bool.{Bool, false}
-use mathlib.Core.List.{List, []}
+use mathlib.Core.List.{List, [], _∷_}
 use mathlib.Core.Path.{_∙_, _≡_, refl}
 
 -- what an addition leaves has the same shape, and its answer is the address of a slot of the smaller
@@ -35,10 +35,6 @@ module _ (ns ks : List ℕ) (ps : List Pool) (shaped : shape ps ≡ ns) where
     unfolding readIn
     read-grow buf = rw found
 
-    pub packet-grow : packetIn (grow ks ps) a ≡ packetIn ps a
-    unfolding packetIn
-    packet-grow = rw found
-
     pub has-grow : hasIn (grow ks ps) a ≡ hasIn ps a
     unfolding hasIn
     has-grow = rw found
@@ -47,30 +43,43 @@ module _ (ns ks : List ℕ) (ps : List Pool) (shaped : shape ps ≡ ns) where
     unfolding lenIn
     len-grow = rw found
 
-    delete-by : (x : Found) (qs : List Pool) → ifHeld a x (λ n b. done [] (grow ks qs)) ≡ through (grow ks) (ifHeld a x (λ n b. done [] qs))
-    unfolding through ifHeld ifNamed
-    delete-by noPool qs = refl
-    delete-by noSlot qs = refl
-    delete-by vacant qs = refl
-    delete-by (held n b) qs = refl
+    -- a call that edits the slot of a packet that is found
+    module _ (f : Slot → Slot) (vs : ℕ → List ℕ) where
+      edit-by : (x : Found) (qs : List Pool) → ifHeld a x (λ n b. done (vs n) (grow ks qs)) ≡ through (grow ks) (ifHeld a x (λ n b. done (vs n) qs))
+      unfolding through ifHeld ifNamed
+      edit-by noPool qs = refl
+      edit-by noSlot qs = refl
+      edit-by vacant qs = refl
+      edit-by (held n b) qs = refl
+
+      shape-by : (x : Found) (qs : List Pool) → shape qs ≡ ns → Left (λ vs rs. shape rs ≡ ns) (ifHeld a x (λ n b. done (vs n) qs))
+      unfolding ifHeld ifNamed
+      shape-by noPool qs e = tt
+      shape-by noSlot qs e = tt
+      shape-by vacant qs e = tt
+      shape-by (held n b) qs e = e
+
+      edited-grow : ifHeld a (find (grow ks ps) a) (λ n b. done (vs n) (edit f (grow ks ps) a))
+          ≡ through (grow ks) (ifHeld a (find ps a) (λ n b. done (vs n) (edit f ps a)))
+      edited-grow = rw (found, edit-grow f ks ps a here) (edit-by (find ps a) (edit f ps a))
+
+      edited-shape : Left (λ vs rs. shape rs ≡ ns) (ifHeld a (find ps a) (λ n b. done (vs n) (edit f ps a)))
+      edited-shape = shape-by (find ps a) (edit f ps a) (shape-edit f ps a ∙ shaped)
 
     pub delete-grow : deleteIn (grow ks ps) a ≡ through (grow ks) (deleteIn ps a)
     unfolding deleteIn
-    delete-grow = rw (found, edit-grow wipe ks ps a here) (delete-by (find ps a) (edit wipe ps a))
-
-    shape-by : (x : Found) (qs : List Pool) → shape qs ≡ ns → Left (λ vs rs. shape rs ≡ ns) (ifHeld a x (λ n b. done [] qs))
-    unfolding ifHeld ifNamed
-    shape-by noPool qs e = tt
-    shape-by noSlot qs e = tt
-    shape-by vacant qs e = tt
-    shape-by (held n b) qs e = e
+    delete-grow = edited-grow wipe (λ n. [])
 
     pub delete-shape : Left (λ vs rs. shape rs ≡ ns) (deleteIn ps a)
     unfolding deleteIn
-    delete-shape = shape-by (find ps a) (edit wipe ps a) (shape-edit wipe ps a ∙ shaped)
+    delete-shape = edited-shape wipe (λ n. [])
 
     pub deletes : Alike (grow ks) (λ vs rs. shape rs ≡ ns) (deleteIn ps a) (deleteIn (grow ks ps) a)
     deletes = record { same = λ h. delete-grow; left = delete-shape }
+
+    pub modifies : (ys : List ℕ) → Alike (grow ks) (λ vs rs. shape rs ≡ ns) (modifyIn ps a ys) (modifyIn (grow ks ps) a ys)
+    unfolding modifyIn
+    modifies ys = record { same = λ h. edited-grow (rewrite ys) (λ n. n ∷ []); left = edited-shape (rewrite ys) (λ n. n ∷ []) }
 
   module _ (narrow : Narrow ns) (few : length ns ≤ 256) where
     places : (d : List ℕ) (x x′ : Choice) → (isFull x ≡ false → x′ ≡ x) → Open ps (length d) x

@@ -4,7 +4,7 @@ use Rattle.rules.proofs.Order.{refusal-keeps}
 use Rattle.rules.specs.Papers.{Outcome, says}
 use Rattle.schedule.specs.State.{State, recordOf}
 use Rattle.schedule.specs.declared.Setup.{Setup}
-use Rattle.scheduler.proofs.Numbers.{Numbered, clock-numbered, through-numbered, mark-numbered, own-add, own-by-id, own-count, own-delete, own-has, own-keeping, own-len, own-numbered, own-packet, own-read, own-reset, own-retrieve, own-stored, own-tick, own-unwrapped, own-window, own-wrapped}
+use Rattle.scheduler.proofs.Numbers.{Numbered, clock-numbered, through-numbered, mark-numbered, own-add, own-by-id, own-count, own-delete, own-has, own-keeping, own-len, own-modify, own-numbered, own-read, own-reset, own-retrieve, own-stored, own-tick, own-unwrapped, own-window, own-wrapped}
 use Rattle.scheduler.specs.Laws.{EveryStepAnswers, Told}
 use Rattle.scheduler.specs.Steps.{Request, add, bufferOf, carried, count, delete, deleteById, deleteKeeping, deleteWindow, disable, enable, hasElementAt, insertStored, insertUnwrapped, insertWrapped, lenOfData, looked, modify, read, reset, retrieve, setClock, step, tick, ticked}
 use Rattle.tick.specs.Tick.{Logged}
@@ -38,7 +38,7 @@ module _ (su : Setup) (s : State) where
         demand = record { in-table = h .most; kept = λ above. (refl, refusal-keeps _ buf (λ b. b) above) };
         undamaged = h .undamaged;
       }
-  told (modify a d) = carries fine s _ (through-numbered fine _ _ (own-numbered fine _ (own-packet (s .pools) a)))
+  told (modify a d) = carries fine s _ (through-numbered fine _ _ (own-numbered fine _ (own-modify (s .pools) a d)))
   told (delete a) = carries fine s _ (through-numbered fine _ _ (own-numbered fine _ (own-delete (s .pools) a)))
   told (hasElementAt a) = looks fine s _ (own-numbered fine _ (own-has (s .pools) a))
   told (lenOfData a) = looks fine s _ (own-numbered fine _ (own-len (s .pools) a))

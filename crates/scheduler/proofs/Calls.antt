@@ -22,16 +22,15 @@ use Rattle.starting.specs.Starting.{startIn}
 use Rattle.schedule.specs.State.{State, recordOf, withEntries, withPools}
 use Rattle.schedule.specs.declared.Setup.{Setup}
 use Rattle.scheduler.proofs.Stamps.{data-bytes, stamp-timely}
-use Rattle.store_laws.proofs.Fitting.{add-fits, delete-fits, fresh-fits, rewrite-fits}
+use Rattle.store_laws.proofs.Fitting.{add-fits, delete-fits, fresh-fits, modify-fits}
 use Rattle.scheduler.specs.Fits.{Bytes, Fits, Gives}
 use Rattle.store_laws.specs.Fits.{PoolsFit}
 use Rattle.scheduler.specs.Steps.{ofPools, ofRecord}
 use Rattle.stamp.specs.Stamp.{Timely, stampOf}
 use Rattle.stamp.specs.declared.Stamp.the-variants.{At, Refused}
 use Rattle.stamp.specs.declared.Stamp.{Stamp}
-use Rattle.store.specs.Calls.{addIn, deleteIn}
+use Rattle.store.specs.Calls.{addIn, deleteIn, modifyIn}
 use Rattle.slots.specs.Pools.{Pool}
-use Rattle.store.specs.Edits.{edit, rewrite}
 use Rattle.rows.proofs.Order.{Head, InRange as EntryInRange, ordered-cons, ordered-less, ordered-make}
 use Rattle.table_edit.proofs.Ordering.{insert-ordered, without-ordered}
 use Rattle.table_edit.proofs.Stays.{length-insertSorted, length-without}
@@ -86,11 +85,8 @@ module _ (su : Setup) (s : State) (f : Fits su s) where
   pub delete-gives : (a : ℕ) → Gives su (ofPools s (deleteIn (s .pools) a))
   delete-gives a = pools-give _ (delete-fits (su .store) (s .pools) (f .pools) a)
 
-  -- what is written through `modify`
-  pub modify-gives : (a : ℕ) (d : List ℕ) (o : Outcome (List ℕ)) → Gives su (through (λ b. withPools (edit (rewrite d) (s .pools) a) s) o)
-  unfolding through
-  modify-gives a d (refused p) = tt
-  modify-gives a d (done vs b) = with-pools su s _ f (rewrite-fits (su .store) (s .pools) (f .pools) a d)
+  pub modify-gives : (a : ℕ) (d : List ℕ) → Gives su (ofPools s (modifyIn (s .pools) a d))
+  modify-gives a d = pools-give _ (modify-fits (su .store) (s .pools) (f .pools) a d)
 
 -- ---- the record's calls
 

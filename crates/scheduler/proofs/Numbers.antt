@@ -23,8 +23,8 @@ use Rattle.schedule.specs.declared.Setup.{Setup}
 use Rattle.stamp.specs.Stamp.{stampOf}
 use Rattle.stamp.specs.declared.Stamp.the-variants.{At, Refused}
 use Rattle.stamp.specs.declared.Stamp.{Stamp}
-use Rattle.store.specs.Calls.{addIn, deleteIn, place}
-use Rattle.lookup.specs.Calls.{ifHeld, ifNamed, packetIn}
+use Rattle.store.specs.Calls.{addIn, deleteIn, modifyIn, place}
+use Rattle.lookup.specs.Calls.{ifHeld, ifNamed}
 use Rattle.presence.specs.Presence.{hasIn, lenIn}
 use Rattle.reading.specs.Reading.{readIn}
 use Rattle.scheduler.specs.Laws.{Own}
@@ -90,6 +90,10 @@ pub own-delete : (ps : List Pool) (a : ℕ) → Own (deleteIn ps a)
 unfolding deleteIn
 own-delete ps a = own-held a (find ps a) _ (λ n b. tt)
 
+pub own-modify : (ps : List Pool) (a : ℕ) (ys : List ℕ) → Own (modifyIn ps a ys)
+unfolding modifyIn
+own-modify ps a ys = own-held a (find ps a) _ (λ n b. tt)
+
 own-place : (ps : List Pool) (d : List ℕ) (x : Choice) → Own (place ps d x)
 unfolding place
 own-place ps d tooLarge = (omega arith, omega arith)
@@ -99,10 +103,6 @@ own-place ps d (inSlot k i) = tt
 pub own-add : (spill : Bool) (ps : List Pool) (d : List ℕ) → Own (addIn spill ps d)
 unfolding addIn
 own-add spill ps d = own-place ps d (choose spill ps (length d))
-
-pub own-packet : (ps : List Pool) (a : ℕ) → Own (packetIn ps a)
-unfolding packetIn
-own-packet ps a = own-held a (find ps a) _ (λ n b. tt)
 
 pub own-read : (ps : List Pool) (a : ℕ) (buf : List ℕ) → Own (readIn ps a buf)
 unfolding readIn

@@ -35,7 +35,7 @@ pub step-stays : (su : Setup) (q : Request) (s : State) → OfBytes q → Fits s
 unfolding step carried looked ticked
 step-stays su (add d) s o f = gives-after su s _ f (add-gives su s f d)
 step-stays su (read a buf) s o f = f
-step-stays su (modify a d) s o f = gives-after su s _ f (modify-gives su s f a d _)
+step-stays su (modify a d) s o f = gives-after su s _ f (modify-gives su s f a d)
 step-stays su (delete a) s o f = gives-after su s _ f (delete-gives su s f a)
 step-stays su (hasElementAt a) s o f = f
 step-stays su (lenOfData a) s o f = f

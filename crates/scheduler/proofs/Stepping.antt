@@ -3,7 +3,7 @@ use Prim.Native.Nat.{ℕ}
 use Rattle.record.specs.Record.{clockIn, markIn}
 use Rattle.record.specs.declared.Record.{Record}
 use Rattle.rules.proofs.Order.{through-says}
-use Rattle.rules.specs.Papers.{Outcome, Paper, after, done, through, no, refused, says}
+use Rattle.rules.specs.Papers.{Outcome, Paper, after, done, through, refused, says}
 use Rattle.schedule.proofs.Facts.{facts}
 use Rattle.schedule.proofs.Promises.{judging-fine, record-same}
 use Rattle.schedule.specs.Judge.{Sound, judging}
@@ -16,20 +16,18 @@ use Rattle.scheduler.proofs.StaysSound.{call-stays, record-stays, step-
 use Rattle.scheduler.specs.Fits.{Fits, Gives, OfBytes}
 use Rattle.scheduler.specs.Laws.{StepsAs}
 use Rattle.scheduler.specs.Steps.{Request, add, carried, delete, disable, enable, modify, ofPools, ofRecord, setClock, step, withRecord}
-use Rattle.store.specs.Calls.{addIn, deleteIn}
-use Rattle.lookup.specs.Calls.{ifHeld, ifNamed, judging as storeJudging, packetIn}
+use Rattle.store.specs.Calls.{addIn, deleteIn, modifyIn}
+use Rattle.lookup.specs.Calls.{judging as storeJudging}
 use Rattle.layout.specs.Judge.{Sound as StoreSound}
-use Rattle.slots.specs.Pools.{Pool, find, held}
+use Rattle.slots.specs.Pools.{Pool}
 use Rattle.store.specs.Promise.{Writes as StoreWrites}
-use Rattle.lookup.specs.Promise.{packetStart}
-use Rattle.slots.specs.View.{Leaves, put, view}
-use Rattle.store_laws.proofs.Reached.{add-done, delete-done, modify-leaves}
-use Rattle.store_laws.proofs.StaysSound.{modify-stays, public-add-stays, public-delete-stays}
+use Rattle.slots.specs.View.{Leaves, view}
+use Rattle.store_laws.proofs.Reached.{add-done, delete-done, modify-done}
+use Rattle.store_laws.proofs.StaysSound.{public-add-stays, public-delete-stays, public-modify-stays}
 use Rattle.rows.specs.Entries.{unpack}
 use Rattle.time.specs.declared.UnixTime.{UnixTime}
-use lib.ListN.{length}
 use mathlib.Core.Bool.{false, true}
-use mathlib.Core.List.{List, [], _∷_}
+use mathlib.Core.List.{List}
 use mathlib.Core.Path.{_∙_, _≡_, ap, refl, sym}
 
 -- ---- insertions and deletions
@@ -138,16 +136,11 @@ module _ (su : Setup) (r : Record) (st le ro : List ℕ) (s : Sound su r st le r
       store-step (delete a) (deleteIn (view (su .store) st le) a) refl (public-delete-stays (su .store) st le k a p st′ le′ w)
       (g .answer) (g .lists)
 
--- ys was written through the part that `modify_part` lends at an address that holds a packet
-pub modify-steps : (su : Setup) (r : Record) (st le ro : List ℕ) → Sound su r st le ro → (a n : ℕ) (raw ys : List ℕ)
-    → find (view (su .store) st le) a ≡ held n raw → length ys ≡ n
-    → StepsAs su r st le ro (modify a ys) (no 0 (n ∷ [])) r (put (packetStart (su .store) a) n ys st) le ro
-unfolding step carried stateOf packetIn ifHeld ifNamed through says after
-modify-steps su r st le ro s a n raw ys q e =
-    let k = facts s .store in
-    let l = modify-leaves (su .store) st le k a n raw ys q e in
-    record {
-      sound = store-stays su r st le ro _ le s (modify-stays (su .store) st le k a n raw ys q e);
-      answer = rw q;
-      state = rw q (pools-state su r st le ro s (no 0 []) _ le _ l);
-    }
+  pub modify-steps : (a : ℕ) (ys : List ℕ) → StoreWrites (su .store) st le (storeJudging (su .store) st le (λ ps. modifyIn ps a ys)) p st′ le′
+      → StepsAs su r st le ro (modify a ys) p r st′ le′ ro
+  unfolding step stateOf
+  modify-steps a ys w =
+      let k = facts s .store in
+      let g = modify-done (su .store) st le k a ys p st′ le′ w in
+      store-step (modify a ys) (modifyIn (view (su .store) st le) a ys) refl (public-modify-stays (su .store) st le k a ys p st′ le′ w)
+      (g .answer) (g .lists)

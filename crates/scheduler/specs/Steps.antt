@@ -15,12 +15,10 @@ use Rattle.rules.specs.Papers.{Outcome, Paper, after, through, says}
 use Rattle.counting.specs.Counting.{countIn}
 use Rattle.schedule.specs.State.{State, recordOf, withPools}
 use Rattle.schedule.specs.declared.Setup.{Setup}
-use Rattle.store.specs.Calls.{addIn, deleteIn}
-use Rattle.lookup.specs.Calls.{packetIn}
+use Rattle.store.specs.Calls.{addIn, deleteIn, modifyIn}
 use Rattle.presence.specs.Presence.{hasIn, lenIn}
 use Rattle.reading.specs.Reading.{readIn}
 use Rattle.slots.specs.Pools.{Pool}
-use Rattle.store.specs.Edits.{edit, rewrite}
 use Rattle.tick.specs.Tick.{Logged, tickIn}
 use Rattle.time.specs.declared.UnixTime.{UnixTime}
 
@@ -99,7 +97,7 @@ ofRecord s o = through (withRecord s) o
 unfoldable pub step : Setup → Request → State → Stepped
 step su (add d) s = carried s (ofPools s (addIn (su .store .spill) (s .pools) d))
 step su (read a buf) s = looked s (readIn (s .pools) a buf) (after (readIn (s .pools) a buf) buf (λ b. b))
-step su (modify a d) s = carried s (through (λ b. withPools (edit (rewrite d) (s .pools) a) s) (packetIn (s .pools) a))
+step su (modify a d) s = carried s (ofPools s (modifyIn (s .pools) a d))
 step su (delete a) s = carried s (ofPools s (deleteIn (s .pools) a))
 step su (hasElementAt a) s = looked s (hasIn (s .pools) a) []
 step su (lenOfData a) s = looked s (lenIn (s .pools) a) []

@@ -4,5 +4,6 @@ pub mod Wrote
 pub mod Edit
 pub mod Rows
 pub mod Promises
+pub mod Modifying
 pub mod Chosen
 pub mod Start

@@ -7,7 +7,7 @@ use Rattle.lookup.specs.Calls.{ifHeld}
 use Rattle.rules.specs.Papers.{Outcome, done, no, refused}
 use Rattle.slots.specs.Pools.{Choice, Pool, allTaken, choose, find, free, into, tooLarge}
 use Rattle.rules.specs.Lists.{each}
-use Rattle.store.specs.Edits.{edit, editAt, fill, wipe}
+use Rattle.store.specs.Edits.{edit, editAt, fill, rewrite, wipe}
 use lib.ListN.{length, replicate}
 use mathlib.Core.Bool.{Bool}
 use mathlib.Core.List.{List, [], _∷_}
@@ -16,6 +16,10 @@ use Rattle.layout.specs.declared.Setup.{Setup}
 -- delete: the slot is wiped
 unfoldable pub deleteIn : List Pool → ℕ → Outcome (List Pool)
 deleteIn ps a = ifHeld a (find ps a) (λ n b. done [] (edit wipe ps a))
+
+-- modify: what is written through it, ys, is part of the request. It answers the packet's length, and ys goes over the packet's bytes
+unfoldable pub modifyIn : List Pool → ℕ → List ℕ → Outcome (List Pool)
+modifyIn ps a ys = ifHeld a (find ps a) (λ n b. done (n ∷ []) (edit (rewrite ys) ps a))
 
 -- add: 11, 12, and else the packet goes to the chosen slot, whose address is answered
 unfoldable pub place : List Pool → List ℕ → Choice → Outcome (List Pool)

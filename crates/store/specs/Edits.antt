@@ -1,4 +1,4 @@
--- One slot edited: what an addition, a deletion and a loan make of it.
+-- One slot edited: what an addition, a deletion and what is written through `modify` make of it.
 use Prim.Native.Nat.{suc, zero, ℕ}
 use Rattle.address.specs.Address.{poolOf, slotOf}
 use Rattle.slots.specs.Pools.{Pool, Slot, free, over, taken}
@@ -29,7 +29,8 @@ abbrev pub fill : List ℕ → Slot → Slot
 fill d (free b) = taken (length d) (over d b)
 fill d (taken n b) = taken n b
 
--- what is written through `modify` replaces the packet's bytes
+-- what is written through `modify` replaces the packet's bytes, from their start on and no further than they go; where less is written, the
+-- rest stays. The packet's length stays, and so does what its slot holds after it
 abbrev pub rewrite : List ℕ → Slot → Slot
 rewrite d (free b) = free b
 rewrite d (taken n b) = taken n (over (take n d) b)

@@ -10,7 +10,7 @@ use Rattle.slots.proofs.Lists.{over-length, part-length}
 use Rattle.store.proofs.Chosen.{Open, choose-open, sizeIn}
 use Rattle.layout.proofs.Layouts.{len-free, len-small}
 use Rattle.address.specs.Address.{poolOf, slotOf}
-use Rattle.store.specs.Calls.{addIn, deleteIn, freshPool, freshPools, place}
+use Rattle.store.specs.Calls.{addIn, deleteIn, freshPool, freshPools, modifyIn, place}
 use Rattle.lookup.specs.Calls.{ifHeld, ifNamed}
 use Rattle.layout.specs.Judge.{Sized, Sound, buffersOk, lenOk, lensOk, poolLensOk, rowOk}
 use Rattle.layout.specs.Layout.{rowsBefore, sizeAt, slotsAt}
@@ -65,9 +65,9 @@ fill-fits : (z : ℕ) (d : List ℕ) → length d ≤ z → (x : Slot) → SlotF
 fill-fits z d l (free b) h = (over-length d b (omega arith) ∙ h, l)
 fill-fits z d l (taken n b) h = h
 
-rewrite-slot-fits : (z : ℕ) (d : List ℕ) (x : Slot) → SlotFits z x → SlotFits z (rewrite d x)
-rewrite-slot-fits z d (free b) h = h
-rewrite-slot-fits z d (taken n b) h =
+rewrite-fits : (z : ℕ) (d : List ℕ) (x : Slot) → SlotFits z x → SlotFits z (rewrite d x)
+rewrite-fits z d (free b) h = h
+rewrite-fits z d (taken n b) h =
     let e = length-take n d in
     (over-length (take n d) b (omega (arith, h .0, h .1)) ∙ h .0, h .1)
 
@@ -93,8 +93,15 @@ module _ (su : Setup) (ps : List Pool) (h : PoolsFit su 0 ps) where
   unfolding addIn
   add-fits spill d = placed-fits d (choose spill ps (length d)) (choose-open spill ps (length d))
 
-  pub rewrite-fits : (a : ℕ) (d : List ℕ) → PoolsFit su 0 (edit (rewrite d) ps a)
-  rewrite-fits a d = edit-fits su (rewrite d) ps 0 (poolOf a) (slotOf a) (rewrite-slot-fits _ d) h
+  pub modify-fits : (a : ℕ) (d : List ℕ) → PoolsFit su 0 (after (modifyIn ps a d) ps (λ qs. qs))
+  unfolding modifyIn after ifHeld ifNamed
+  modify-fits a d = go (find ps a)
+    where
+      go : (x : Found) → PoolsFit su 0 (after (ifHeld a x (λ n b. done (n ∷ []) (edit (rewrite d) ps a))) ps (λ qs. qs))
+      go noPool = h
+      go noSlot = h
+      go vacant = h
+      go (held n b) = edit-fits su (rewrite d) ps 0 (poolOf a) (slotOf a) (rewrite-fits _ d) h
 
 -- subpools that are made one by one
 pub each-fits : (su : Setup) (f : ℕ → Pool) (n k : ℕ) → k + n ≡ su .pools → ((t : ℕ) → t < su .pools → PoolFits su t (f t))

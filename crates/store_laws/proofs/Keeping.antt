@@ -10,9 +10,9 @@ use Rattle.slots.specs.Pools.{Choice, Pool, Slot, allTaken, find, free, held, i
 use Rattle.store.specs.Edits.{editAt, fill}
 use Rattle.slots.specs.View.{view}
 use Rattle.store_laws.proofs.Elsewhere.{slot-here, slot-vacant}
-use Rattle.store_laws.proofs.OthersStay.{add-keeps, delete-others, rewrite-others}
+use Rattle.store_laws.proofs.OthersStay.{add-keeps, delete-others, modify-others}
 use Rattle.store_laws.proofs.Reached.{address-back}
-use Rattle.store_laws.specs.Requests.{AllSpare, Spares, StoreRequest, adds, deletes, rewrites, run, step, theSlot}
+use Rattle.store_laws.specs.Requests.{AllSpare, Spares, StoreRequest, adds, deletes, modifies, run, step, theSlot}
 use lib.ListN.{drop, length, take}
 use lib.Seq.{take-at}
 use mathlib.Core.Bool.{Bool}
@@ -32,7 +32,7 @@ step-keeps : (spill : Bool) (ps : List Pool) (r : StoreRequest) (a n : ℕ) (b :
 unfolding step
 step-keeps spill ps (adds d) a n b o h = add-keeps spill ps d (poolOf a) (slotOf a) n b h
 step-keeps spill ps (deletes c) a n b o h = delete-others ps c (poolOf a) (slotOf a) o ∙ h
-step-keeps spill ps (rewrites c d) a n b o h = rewrite-others ps c d (poolOf a) (slotOf a) o ∙ h
+step-keeps spill ps (modifies c d) a n b o h = modify-others ps c d (poolOf a) (slotOf a) o ∙ h
 
 pub run-keeps : (spill : Bool) (ps : List Pool) (rs : List StoreRequest) (a n : ℕ) (b : List ℕ) → AllSpare a rs
     → theSlot ps (poolOf a) (slotOf a) ≡ some (taken n b)

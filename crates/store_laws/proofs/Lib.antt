@@ -1,4 +1,4 @@
--- The store's laws: OneOutcome, RefusalKeeps, StaysSound, ReadBack, OthersStay, OneToOne. The other files help them.
+-- The store's laws: OneOutcome, RefusalKeeps, StaysSound, ReadBack, OthersStay, OneToOne, WrittenThrough. The other files help them.
 pub mod Numbers
 pub mod Fitting
 pub mod Elsewhere
@@ -10,5 +10,6 @@ pub mod OneOutcome
 pub mod RefusalKeeps
 pub mod StaysSound
 pub mod OthersStay
+pub mod WrittenThrough
 pub mod Keeping
 pub mod ReadBack

@@ -5,16 +5,15 @@ use Rattle.rules.specs.Papers.{Paper, after, done, no}
 use Rattle.store.proofs.Chosen.{choose-open}
 use Rattle.store.proofs.Slots.{Other}
 use Rattle.address.specs.Address.{poolOf, slotOf}
-use Rattle.store.specs.Calls.{addIn, deleteIn, place}
+use Rattle.store.specs.Calls.{addIn, deleteIn, modifyIn, place}
 use Rattle.lookup.specs.Calls.{ifHeld, ifNamed, judging}
 use Rattle.layout.specs.Judge.{Sound}
 use Rattle.slots.specs.Pools.{Found, Pool, choose, find, held, into, noPool, noSlot, taken, vacant}
 use Rattle.store.specs.Edits.{edit, fill, rewrite, wipe}
 use Rattle.store.specs.Promise.{Writes}
-use Rattle.lookup.specs.Promise.{packetStart}
-use Rattle.slots.specs.View.{put, view}
+use Rattle.slots.specs.View.{view}
 use Rattle.store_laws.proofs.Elsewhere.{named, placed-keeps, slot-else}
-use Rattle.store_laws.proofs.Reached.{add-done, address-back, delete-done, modify-leaves}
+use Rattle.store_laws.proofs.Reached.{add-done, address-back, delete-done, modify-done}
 use Rattle.store_laws.specs.Requests.{Elsewhere, theSlot}
 use lib.ListN.{length}
 use mathlib.Core.Bool.{Bool}
@@ -24,8 +23,16 @@ use mathlib.Core.Path.{_∙_, _≡_, ap, refl, sym}
 use Rattle.layout.specs.declared.Setup.{Setup}
 
 -- over the subpools
-pub rewrite-others : (ps : List Pool) (a : ℕ) (d : List ℕ) (k i : ℕ) → Elsewhere k i a → theSlot (edit (rewrite d) ps a) k i ≡ theSlot ps k i
-rewrite-others ps a d k i o = slot-else (rewrite d) ps k i (poolOf a) (slotOf a) o
+pub modify-others : (ps : List Pool) (a : ℕ) (d : List ℕ) (k i : ℕ) → Elsewhere k i a
+    → theSlot (after (modifyIn ps a d) ps (λ qs. qs)) k i ≡ theSlot ps k i
+unfolding modifyIn after ifHeld ifNamed
+modify-others ps a d k i o = go (find ps a)
+  where
+    go : (x : Found) → theSlot (after (ifHeld a x (λ n b. done (n ∷ []) (edit (rewrite d) ps a))) ps (λ qs. qs)) k i ≡ theSlot ps k i
+    go noPool = refl
+    go noSlot = refl
+    go vacant = refl
+    go (held n b) = slot-else (rewrite d) ps k i (poolOf a) (slotOf a) o
 
 pub delete-others : (ps : List Pool) (a k i : ℕ) → Elsewhere k i a → theSlot (after (deleteIn ps a) ps (λ qs. qs)) k i ≡ theSlot ps k i
 unfolding deleteIn after ifHeld ifNamed
@@ -55,6 +62,12 @@ module _ (su : Setup) (st le : List ℕ) (s : Sound su st le) (st′ le′ : Lis
   others-delete a p w o =
       ap (λ (ps : List Pool). theSlot ps k i) (delete-done su st le s a p st′ le′ w .lists .seen) ∙ delete-others (view su st le) a k i o
 
+  pub others-modify : (a : ℕ) (ys : List ℕ) (p : Paper) → Writes su st le (judging su st le (λ ps. modifyIn ps a ys)) p st′ le′
+      → Elsewhere k i a → theSlot (view su st′ le′) k i ≡ theSlot (view su st le) k i
+  others-modify a ys p w o =
+      ap (λ (ps : List Pool). theSlot ps k i) (modify-done su st le s a ys p st′ le′ w .lists .seen)
+      ∙ modify-others (view su st le) a ys k i o
+
   pub others-add : (d : List ℕ) (a : ℕ) → Writes su st le (judging su st le (λ ps. addIn (su .spill) ps d)) (no 0 (a ∷ [])) st′ le′ → Elsewhere k i a
       → theSlot (view su st′ le′) k i ≡ theSlot (view su st le) k i
   unfolding addIn
@@ -65,9 +78,3 @@ module _ (su : Setup) (st le : List ℕ) (s : Sound su st le) (st′ le′ : Lis
       ap (λ (ps : List Pool). theSlot ps k i) (e .lists .seen)
       ∙ add-others (su .spill) (view su st le) d (c .0) (c .1) (c .2) k i
       (λ g. o (g .0 ∙ sym (f .0) ∙ ap poolOf (sym (c .3)), g .1 ∙ sym (f .1) ∙ ap slotOf (sym (c .3))))
-
-  -- ys was written through the part that `modify_part` lends
-  pub others-modify : (a n : ℕ) (raw ys : List ℕ) → find (view su st le) a ≡ held n raw → length ys ≡ n → Elsewhere k i a
-      → theSlot (view su (put (packetStart su a) n ys st) le) k i ≡ theSlot (view su st le) k i
-  others-modify a n raw ys q e o =
-      ap (λ (ps : List Pool). theSlot ps k i) (modify-leaves su st le s a n raw ys q e .seen) ∙ rewrite-others (view su st le) a ys k i o

@@ -2,28 +2,24 @@
 use Prim.Native.Nat.{ℕ}
 use Rattle.rules.specs.Papers.{Outcome, Paper, done, no, refused, says}
 use Rattle.rules.specs.Tests.{unless}
-use Rattle.layout.proofs.Bounds.{bounds}
 use Rattle.store.proofs.Chosen.{add-at, room-there}
-use Rattle.store.proofs.Edit.{leaves-rewrite}
-use Rattle.slots.proofs.Find.{find-held}
-use Rattle.lookup.proofs.Packets.{held-inside, packet-there}
+use Rattle.lookup.proofs.Packets.{packet-there}
+use Rattle.store.proofs.Modifying.{modify-at, modify-refused}
 use Rattle.store.proofs.Promises.{delete-at, does-refused, writes}
 use Rattle.store.proofs.Start.{fresh-done, fresh-leaves}
 use Rattle.address.specs.Address.{addressOf, poolOf, slotOf}
-use Rattle.store.specs.Calls.{addIn, deleteIn, freshIn, freshPools, place}
-use Rattle.lookup.specs.Calls.{ifHeld, ifNamed, judging}
+use Rattle.store.specs.Calls.{addIn, deleteIn, freshIn, freshPools, modifyIn, place}
+use Rattle.lookup.specs.Calls.{ifHeld, ifNamed, judging, packetIn}
 use Rattle.slots.specs.Inside.{cellOf}
 use Rattle.layout.specs.Judge.{Sized, Sound, buffersOk, setupOk, sized}
 use Rattle.slots.specs.Pools.{Choice, Found, Pool, allTaken, choose, find, held, into, noPool, noSlot, tooLarge, vacant}
-use Rattle.store.specs.Edits.{edit, rewrite}
 use Rattle.store.specs.Promise.{Does, Writes}
-use Rattle.lookup.specs.Promise.{packetStart}
 use Rattle.store.specs.Refusals.{startedPaper}
-use Rattle.slots.specs.View.{Leaves, put, view}
-use lib.ListN.{length}
+use Rattle.slots.specs.View.{Leaves, view}
+use lib.ListN.{length, take}
 use mathlib.Core.Bool.{Bool, false, true}
 use mathlib.Core.List.{List, [], _∷_}
-use mathlib.Core.Path.{_∙_, _≡_, ap, refl, subst, sym}
+use mathlib.Core.Path.{_∙_, _≡_, ap, refl, sym}
 use native.Mathlib.Omega.{arith}
 use Rattle.layout.specs.declared.Setup.{Setup}
 use Rattle.store.specs.declared.Started.the-variants as St
@@ -79,17 +75,16 @@ module _ (su : Setup) (st le : List ℕ) (s : Sound su st le) where
           as-judged _ _ p _ _ st′ le′
           (delete-at su st le a s (cellOf su (poolOf a) (slotOf a)) (packet-there su st le s a n b e) _ _ refl refl) w
 
-held-len : (m n : ℕ) (b c : List ℕ) → held m b ≡ held n c → m ≡ n
-held-len m n b c q = cc
-
--- ys was written through the part that `modify_part` lends: the packet is rewritten, and nothing else
-pub modify-leaves : (su : Setup) (st le : List ℕ) → Sound su st le → (a n : ℕ) (raw ys : List ℕ) → find (view su st le) a ≡ held n raw → length ys ≡ n
-    → Leaves su st le (edit (rewrite ys) (view su st le) a) (put (packetStart su a) n ys st) le
-modify-leaves su st le s a n raw ys q e =
-    let h = held-inside su st le (poolOf a) (slotOf a) n raw q in
-    subst (λ (m : ℕ). Leaves su st le (edit (rewrite ys) (view su st le) a) (put (packetStart su a) m ys st) le) e
-    (leaves-rewrite su st le (bounds s) (poolOf a) (slotOf a) (h .0) (h .1) ys (h .2)
-    (e ∙ held-len _ _ _ _ (sym q ∙ find-held su st le (poolOf a) (slotOf a) (h .0) (h .1) (h .2))))
+  pub modify-done : (a : ℕ) (ys : List ℕ) (p : Paper) (st′ le′ : List ℕ)
+      → Writes su st le (judging su st le (λ ps. modifyIn ps a ys)) p st′ le′ → Does su st le (λ ps. modifyIn ps a ys) p st′ le′
+  unfolding packetIn ifHeld ifNamed
+  modify-done a ys p st′ le′ w = go (find (view su st le) a) refl
+    where
+      go : (x : Found) → find (view su st le) a ≡ x → Does su st le (λ ps. modifyIn ps a ys) p st′ le′
+      go noPool e = as-judged _ (no 16 (poolOf a ∷ [])) p st le st′ le′ (modify-refused su st le a ys _ (rw e)) w
+      go noSlot e = as-judged _ (no 17 (slotOf a ∷ [])) p st le st′ le′ (modify-refused su st le a ys _ (rw e)) w
+      go vacant e = as-judged _ (no 18 (addressOf (poolOf a) (slotOf a) ∷ [])) p st le st′ le′ (modify-refused su st le a ys _ (rw e)) w
+      go (held n b) e = as-judged _ (no 0 (n ∷ [])) p _ le st′ le′ (modify-at su st le a ys s n (take n b) (rw e)) w
 
 both-passed : (a b : Bool) (ps : List Pool) → no 0 [] ≡ says (unless a (refused (no 1 [])) (unless b (refused (no 2 [])) (done [] ps)))
     → (a ≡ true) × (b ≡ true)

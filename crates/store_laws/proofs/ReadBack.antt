@@ -1,4 +1,4 @@
--- What was added is read back, at the address that was answered, until it is deleted or rewritten, whatever else is added, deleted or rewritten.
+-- What was added is read back, at the address that was answered, until it is deleted or modified, whatever else is added, deleted or modified.
 use Prim.Native.Nat.{_≤_, ℕ}
 use Rattle.rules.specs.Papers.{done, no, refused}
 use Rattle.rules.specs.Tests.{unless}
@@ -19,7 +19,7 @@ use mathlib.Core.List.{List, [], _∷_}
 use mathlib.Core.Path.{_∙_, _≡_, ap}
 use Rattle.layout.specs.declared.Setup.{Setup}
 
--- d was added and a answered; then come any requests that neither delete nor rewrite the slot that a names.
+-- d was added and a answered; then come any requests that neither delete nor modify the slot that a names.
 -- Whoever asks for the packet at a gets d; a read gets d; a deletion is done, and makes it 18
 module _ (su : Setup) (st le : List ℕ) (s : Sound su st le) (d : List ℕ) (a : ℕ) (qs : List Pool)
     (q : addIn (su .spill) (view su st le) d ≡ done (a ∷ []) qs)

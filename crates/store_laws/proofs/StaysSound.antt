@@ -1,20 +1,17 @@
 -- A sound store stays sound under every call.
--- `read`, `modify`, presence and length are lent both lists for reading alone; so is `modify_part` its length table.
+-- `read`, presence, length and a modify that is given no bytes are lent both lists for reading alone; what is written through the part
+-- that `modify_part` lends is a modify with those bytes (WrittenThrough).
 use Prim.Native.Nat.{ℕ}
 use Rattle.rules.specs.Papers.{Paper}
-use Rattle.store.specs.Calls.{addIn, deleteIn, freshIn, freshPools}
+use Rattle.store.specs.Calls.{addIn, deleteIn, freshIn, freshPools, modifyIn}
 use Rattle.lookup.specs.Calls.{judging}
 use Rattle.layout.specs.Judge.{Sized, Sound}
-use Rattle.slots.specs.Pools.{find, held}
 use Rattle.store.specs.Promise.{Does, Writes}
-use Rattle.lookup.specs.Promise.{packetStart}
 use Rattle.store.specs.Refusals.{startedPaper}
-use Rattle.slots.specs.View.{Leaves, put, view}
-use Rattle.store_laws.proofs.Fitting.{add-fits, delete-fits, fresh-fits, rewrite-fits, sound-of, view-fits}
-use Rattle.store_laws.proofs.Reached.{add-done, delete-done, fresh-made, modify-leaves, sized-of}
-use lib.ListN.{length}
+use Rattle.slots.specs.View.{Leaves, view}
+use Rattle.store_laws.proofs.Fitting.{add-fits, delete-fits, fresh-fits, modify-fits, sound-of, view-fits}
+use Rattle.store_laws.proofs.Reached.{add-done, delete-done, fresh-made, modify-done, sized-of}
 use mathlib.Core.List.{List}
-use mathlib.Core.Path.{_≡_}
 use Rattle.layout.specs.declared.Setup.{Setup}
 use Rattle.store.specs.declared.Started.the-variants as St
 
@@ -25,6 +22,9 @@ module _ (su : Setup) (st le : List ℕ) (s : Sound su st le) where
   pub delete-stays : (a : ℕ) (p : Paper) (st′ le′ : List ℕ) → Does su st le (λ ps. deleteIn ps a) p st′ le′ → Sound su st′ le′
   delete-stays a p st′ le′ w = sound-of su st le _ st′ le′ (sized-of s) (w .lists) (delete-fits su (view su st le) (view-fits su st le s) a)
 
+  pub modify-stays : (a : ℕ) (ys : List ℕ) (p : Paper) (st′ le′ : List ℕ) → Does su st le (λ ps. modifyIn ps a ys) p st′ le′ → Sound su st′ le′
+  modify-stays a ys p st′ le′ w = sound-of su st le _ st′ le′ (sized-of s) (w .lists) (modify-fits su (view su st le) (view-fits su st le s) a ys)
+
   -- the same of the public calls
   pub public-add-stays : (d : List ℕ) (p : Paper) (st′ le′ : List ℕ)
       → Writes su st le (judging su st le (λ ps. addIn (su .spill) ps d)) p st′ le′ → Sound su st′ le′
@@ -34,10 +34,9 @@ module _ (su : Setup) (st le : List ℕ) (s : Sound su st le) where
       → Writes su st le (judging su st le (λ ps. deleteIn ps a)) p st′ le′ → Sound su st′ le′
   public-delete-stays a p st′ le′ w = delete-stays a p st′ le′ (delete-done su st le s a p st′ le′ w)
 
-  -- ys was written through the part that `modify_part` lends at an address that holds a packet
-  pub modify-stays : (a n : ℕ) (raw ys : List ℕ) → find (view su st le) a ≡ held n raw → length ys ≡ n → Sound su (put (packetStart su a) n ys st) le
-  modify-stays a n raw ys q e =
-      sound-of su st le _ _ le (sized-of s) (modify-leaves su st le s a n raw ys q e) (rewrite-fits su (view su st le) (view-fits su st le s) a ys)
+  pub public-modify-stays : (a : ℕ) (ys : List ℕ) (p : Paper) (st′ le′ : List ℕ)
+      → Writes su st le (judging su st le (λ ps. modifyIn ps a ys)) p st′ le′ → Sound su st′ le′
+  public-modify-stays a ys p st′ le′ w = modify-stays a ys p st′ le′ (modify-done su st le s a ys p st′ le′ w)
 
 -- a fresh start that is not refused makes any two lists sound
 pub judged-fresh-sound : (su : Setup) (st le st′ le′ : List ℕ) → Sized su st le → Leaves su st le (freshPools su) st′ le′ → Sound su st′ le′

@@ -2,9 +2,8 @@
 use Prim.Native.Nat.{suc, zero, ℕ}
 use Rattle.rules.specs.Papers.{after}
 use Rattle.address.specs.Address.{poolOf, slotOf}
-use Rattle.store.specs.Calls.{addIn, deleteIn}
+use Rattle.store.specs.Calls.{addIn, deleteIn, modifyIn}
 use Rattle.slots.specs.Pools.{Pool, Slot}
-use Rattle.store.specs.Edits.{edit, rewrite}
 use mathlib.Core.Bool.{Bool}
 use mathlib.Core.List.{List, [], _∷_}
 use mathlib.Core.Option.{Option, none, some}
@@ -25,27 +24,27 @@ theSlot (p ∷ ps) (suc k) i = theSlot ps k i
 abbrev pub Elsewhere : ℕ → ℕ → ℕ → Type 0
 Elsewhere k i a = (k ≡ poolOf a) × (i ≡ slotOf a) → ⊥
 
--- an addition, a deletion, and bytes written through `modify`
+-- an addition, a deletion, and a modify with the bytes that are written through it
 pub data StoreRequest : Type 0 where
   adds : List ℕ → StoreRequest
   deletes : ℕ → StoreRequest
-  rewrites : ℕ → List ℕ → StoreRequest
+  modifies : ℕ → List ℕ → StoreRequest
 
 -- what a request leaves: where it is refused, what was there
 unfoldable pub step : Bool → List Pool → StoreRequest → List Pool
 step spill ps (adds d) = after (addIn spill ps d) ps (λ qs. qs)
 step spill ps (deletes a) = after (deleteIn ps a) ps (λ qs. qs)
-step spill ps (rewrites a d) = edit (rewrite d) ps a
+step spill ps (modifies a d) = after (modifyIn ps a d) ps (λ qs. qs)
 
 unfoldable pub run : Bool → List Pool → List StoreRequest → List Pool
 run spill ps [] = ps
 run spill ps (r ∷ rs) = run spill (step spill ps r) rs
 
--- no request of the list deletes or rewrites the slot that an address names
+-- no request of the list deletes or modifies the slot that an address names
 abbrev pub Spares : ℕ → StoreRequest → Type 0
 Spares a (adds d) = Unit {0}
 Spares a (deletes b) = Elsewhere (poolOf a) (slotOf a) b
-Spares a (rewrites b d) = Elsewhere (poolOf a) (slotOf a) b
+Spares a (modifies b d) = Elsewhere (poolOf a) (slotOf a) b
 
 abbrev pub AllSpare : ℕ → List StoreRequest → Type 0
 AllSpare a [] = Unit {0}
