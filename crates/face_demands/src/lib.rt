@@ -1,0 +1,1 @@
+// No code: the demands over calls of the C face.

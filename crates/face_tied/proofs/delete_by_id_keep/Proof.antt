@@ -1,0 +1,13 @@
+-- `face_tied::delete_by_id_keep` meets its contract.
+use Rattle.face_demands.specs.FaceCalling.{FaceCalls}
+use borrow.Author.Needs.{needs}
+use mathlib.Core.Path.{refl}
+use Rattle.face_tied.proofs.delete_by_id_keep.Statement.{statement}
+use Rattle.face_tied.proofs.delete_by_id_keep.Tie as tie
+
+returns : tie.Need-returns
+unfolding FaceCalls
+returns c = record { tables = c .before .before .before .before .before .before .before .before .before .before .silotwist-delete-by-id-keep .ensures; buffer = refl }
+
+pub delete-by-id-keep-spec : {M : Type 1} → statement M
+delete-by-id-keep-spec = tie.close (tie.spec (λ c κs. search needs) (λ c. search needs) (λ c. search needs) (λ c. search needs) (λ c. search needs) (λ c. search needs) returns)

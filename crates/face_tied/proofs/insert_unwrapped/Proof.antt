@@ -1,0 +1,19 @@
+-- `face_tied::insert_unwrapped` meets its contract.
+use Rattle.face_demands.specs.FaceCalling.{FaceCalls, FacePromised, insertUnwrapped, request}
+use Rattle.face_tied.proofs.FaceTying.{again}
+use borrow.Author.Needs.{needs}
+use mathlib.Core.Path.{refl}
+use Rattle.face_tied.proofs.insert_unwrapped.Statement.{statement}
+use Rattle.face_tied.proofs.insert_unwrapped.Tie as tie
+
+returns : tie.Need-returns
+unfolding FacePromised FaceCalls
+returns c =
+    let e = c .before .before .before .before .before .before .before .before .before .before in
+    let p = e .before .before .before .before .before .before .before .before .before .before .before .before .before in
+    let a = p .args in
+    again _ _ _ _ _ (λ z. request (insertUnwrapped (record { secs = z; nanos = a .nanos }) (a .packet .now))) _ (p .fits .secs)
+    (record { tables = e .silotwist-insert-unwrapped .ensures; buffer = refl })
+
+pub insert-unwrapped-spec : {M : Type 1} → statement M
+insert-unwrapped-spec = tie.close (tie.spec (λ c κs. search needs) (λ c. search needs) (λ c. search needs) (λ c. search needs) (λ c. search needs) (λ c. search needs) returns)
