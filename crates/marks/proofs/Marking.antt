@@ -152,8 +152,8 @@ module _ (su : Setup) (le : List ℕ) (row : ℕ) where
           short = omega arith;
         }
 
-    pub deletes-one : Deletes su le row (set le row (getD le row 0 + added))
-    deletes-one = record { wiped = λ st le₀ ps a k e. rw (e .row) (wiped-one su st le₀ ps le k a (rw (e .row) at h) (rw (e .row) at m)) }
+    pub deletes-one : (v : ℕ) → v ≡ getD le row 0 + added → Deletes su le row (set le row v)
+    deletes-one v q = record { wiped = λ st le₀ ps a k e. rw (q, e .row) (wiped-one su st le₀ ps le k a (rw (e .row) at h) (rw (e .row) at m)) }
 
 pub rows-inside : {su : Setup} {le : List ℕ} → Marking su le → allRows su ≤ length le
 rows-inside d = rows-fit _ (d .store) (d .before) (d .pools) _ (d .marks)

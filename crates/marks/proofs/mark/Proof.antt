@@ -30,7 +30,7 @@ slice-write-lens : tie.Need-slice-write-lens
 slice-write-lens c = inside (c .before .before)
 
 returns-3 : tie.Need-returns-3
-returns-3 c = let s = c .before .before .before in deletes-one _ _ _ (omega (arith, s .pre .0 .rows)) (omega arith)
+returns-3 c = let s = c .before .before .before in deletes-one _ _ _ (omega (arith, s .pre .0 .rows)) (omega arith) _ (omega arith)
 
 pub mark-spec : {M : Type 1} → statement M
 mark-spec =
