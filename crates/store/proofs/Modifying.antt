@@ -9,7 +9,7 @@ use Rattle.lookup.proofs.Finding.{finds-at, held-by}
 use Rattle.lookup.proofs.Packets.{held-inside, packet-there}
 use Rattle.lookup.specs.Calls.{ifHeld, ifNamed, packetIn}
 use Rattle.lookup.specs.Promise.{foundAs, packetStart}
-use Rattle.rules.specs.Papers.{Paper, done, no, refused}
+use Rattle.rules.specs.Papers.{Outcome, Paper, done, no, refused}
 use Rattle.slots.proofs.Lists.{part-length}
 use Rattle.slots.specs.Inside.{cellOf}
 use Rattle.slots.specs.Pools.{Found, Pool, find, held, noPool, noSlot, over, vacant}
@@ -24,13 +24,13 @@ use mathlib.Core.List.{List, [], _∷_}
 use mathlib.Core.Path.{_∙_, _≡_, ap, subst, sym}
 use native.Mathlib.Omega.{arith}
 
-refused-by : (a : ℕ) (x : Found) (p : Paper) (ps : List Pool) → ifHeld a x (λ n b. done (n ∷ []) (take n b)) ≡ refused p
-    → ifHeld a x (λ n b. done (n ∷ []) ps) ≡ refused p
+refused-by : (a : ℕ) (x : Found) (p : Paper) (f : ℕ → List ℕ → Outcome (List Pool)) → ifHeld a x (λ n b. done (n ∷ []) (take n b)) ≡ refused p
+    → ifHeld a x f ≡ refused p
 unfolding ifHeld ifNamed
-refused-by a noPool p ps q = cc
-refused-by a noSlot p ps q = cc
-refused-by a vacant p ps q = cc
-refused-by a (held n b) p ps q = let z : _≡_ {A = ℕ} 0 1 = cc in absurd (omega arith)
+refused-by a noPool p f q = cc
+refused-by a noSlot p f q = cc
+refused-by a vacant p f q = cc
+refused-by a (held n b) p f q = let z : _≡_ {A = ℕ} 0 1 = cc in absurd (omega arith)
 
 same-put : (from n : ℕ) (ys b st : List ℕ) → b ≡ part from n st → length b ≡ n
     → put from n (over (take n ys) (part from n st)) st ≡ put from (length b) (over (take (length b) ys) b) st

@@ -37,7 +37,7 @@ pub one-reading : (o : Outcome (List ℕ)) (buf : List ℕ) (p q : Paper) (buf�
     → (p ≡ q) × (buf₁ ≡ buf₂)
 one-reading o buf p q buf₁ buf₂ w v = (w .answer ∙ sym (v .answer), w .buffer ∙ sym (v .buffer))
 
--- and by the answers themselves: `add`, `delete`, `fresh`
+-- and by the answers themselves: `add`, `delete`, a modify that is given its bytes, `fresh`
 module _ (su : Setup) (st le : List ℕ) (o : Outcome (List Pool)) (st₁ le₁ st₂ le₂ : List ℕ) where
   pub one-add : (r s : Added) → Writes su st le o (addedPaper r) st₁ le₁ → Writes su st le o (addedPaper s) st₂ le₂
       → (r ≡ s) × (st₁ ≡ st₂) × (le₁ ≡ le₂)
@@ -46,6 +46,10 @@ module _ (su : Setup) (st le : List ℕ) (o : Outcome (List Pool)) (st₁ le₁ 
   pub one-delete : (r s : Deleted) → Writes su st le o (deletedPaper r) st₁ le₁ → Writes su st le o (deletedPaper s) st₂ le₂
       → (r ≡ s) × (st₁ ≡ st₂) × (le₁ ≡ le₂)
   one-delete r s w v = let e = one-outcome su st le o _ _ st₁ le₁ st₂ le₂ w v in (one-deleted r s (e .0), e .1, e .2)
+
+  pub one-modify-with : (r s : Length) → Writes su st le o (lengthPaper r) st₁ le₁ → Writes su st le o (lengthPaper s) st₂ le₂
+      → (r ≡ s) × (st₁ ≡ st₂) × (le₁ ≡ le₂)
+  one-modify-with r s w v = let e = one-outcome su st le o _ _ st₁ le₁ st₂ le₂ w v in (one-length r s (e .0), e .1, e .2)
 
   pub one-fresh : (r s : Started) → Writes su st le o (startedPaper r) st₁ le₁ → Writes su st le o (startedPaper s) st₂ le₂
       → (r ≡ s) × (st₁ ≡ st₂) × (le₁ ≡ le₂)
