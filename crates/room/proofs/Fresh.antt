@@ -70,7 +70,7 @@ module _ (su : Setup) where
 
   pub slotted-by : (a : ℕ) → Named su a → Slotted slotsOf a
   unfolding Slotted
-  slotted-by a h = named-each (slotsAt (su .store)) (su .store .pools) 0 (poolOf a) (poolOf a) (slotOf a) (omega arith) (h .0) (h .1)
+  slotted-by a h = named-each (slotsAt (su .store)) (su .store .pools) 0 (poolOf a) (poolOf a) (slotOf a) (omega arith) (omega (arith, h .0)) (h .1)
 
   pub few-slots : setupOk su ≡ true → Narrow slotsOf
   unfolding setupOk storeSetupOk

@@ -43,7 +43,7 @@ slots-are-named su k i ok l h =
     let s = setup-pool (su .store) e k l .3 in
     let at : poolOf (addressOf k i) ≡ k = omega arith in
     let in-it : slotOf (addressOf k i) ≡ i = omega arith in
-    (rw at l, rw (at, in-it) h)
+    (omega arith, rw (at, in-it) h)
 
 pub more-is-roomier : (su : Setup) → MoreIsRoomier su
 more-is-roomier su =

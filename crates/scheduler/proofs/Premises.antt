@@ -1,12 +1,8 @@
 -- The premises of the laws over sequences are met by all that their words allow.
-use Prim.Native.Nat.{_<_, _≤_, suc, zero, ℕ}
-use Rattle.log.specs.Log.{maxLogBytes}
+use Prim.Native.Nat.{_<_, suc, zero, ℕ}
 use Rattle.scheduler.specs.Fits.{Bytes, OfBytes}
 use Rattle.scheduler.specs.Premises.{AmpleIfLong, BytesAre}
 use Rattle.scheduler.specs.Steps.{insertWrapped}
-use Rattle.tick.specs.Tick.{usable}
-use Rattle.turns_laws.specs.Draining.{roomFor}
-use lib.ListN.{getD, length}
 use mathlib.Core.List.{List, [], _∷_}
 use mathlib.Core.Path.{_≡_, subst}
 use native.Mathlib.Omega.{arith}

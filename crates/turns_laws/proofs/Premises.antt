@@ -1,5 +1,5 @@
 -- The room, the number of ticks and the slot size that repeated ticks name.
-use Prim.Native.Nat.{_*_, _+_, _-_, _/_, _<_, _≤_, suc, zero, ℕ}
+use Prim.Native.Nat.{_*_, _+_, _-_, _<_, _≤_, suc, zero, ℕ}
 use Rattle.layout.specs.Limits.{maxSlotSize}
 use Rattle.layout.specs.declared.Setup.{Setup}
 use Rattle.log.proofs.Sizes.{size-records}
@@ -8,7 +8,7 @@ use Rattle.turns_laws.specs.Draining.{roomFor, roundedUp}
 use Rattle.turns_laws.specs.Premises.{FewestTicks, LargestIsOne, RoomToBeHad}
 use lib.ListN.{length, length-replicate, replicate}
 use mathlib.Core.Logic.{_⊎_, inl, inr, ⊎-elim}
-use mathlib.Core.Path.{_≡_, refl, sym}
+use mathlib.Core.Path.{_≡_, refl}
 use native.Mathlib.Nat.{div-add-mod', mul-le-mul-right}
 use native.Mathlib.Omega.{arith}
 

@@ -1,5 +1,5 @@
 -- What repeated ticks ask can be had: the room is what the records take and no more, the ticks are the fewest, the size is one of the setup's.
-use Prim.Native.Nat.{_*_, _-_, _<_, _≤_, ℕ}
+use Prim.Native.Nat.{_*_, _<_, _≤_, ℕ}
 use Rattle.layout.specs.Layout.{sizeAt}
 use Rattle.layout.specs.Limits.{maxSlotSize}
 use Rattle.layout.specs.declared.Setup.{Setup}
@@ -15,7 +15,7 @@ pub record RoomToBeHad : Type 0 where
   pub had : (k big : ℕ) → k ≤ 254 → big ≤ maxSlotSize → roomFor k big ≤ maxLogBytes
   pub most : maxLogBytes < roomFor 255 maxSlotSize
 
--- n ticks with limit k can hand out n * k entries, and so many are asked for only where fewer could not
+-- n ticks with limit k can hand out n * k entries: where no more are due, no more than n ticks are asked for
 unfoldable pub FewestTicks : Type 0
 FewestTicks = (d k n : ℕ) → 1 ≤ k → d ≤ n * k → roundedUp d k ≤ n
 

@@ -1,5 +1,5 @@
 -- Addresses that name slots, and bytes, decided by computing.
-use Prim.Native.Nat.{_<_, suc, zero, ℕ}
+use Prim.Native.Nat.{ℕ}
 use Rattle.address.specs.Address.{poolOf, slotOf}
 use Rattle.layout.specs.Layout.{slotsAt}
 use Rattle.room.specs.Room.{AllNamed, EveryNamed, addresses}
