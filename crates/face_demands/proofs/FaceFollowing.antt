@@ -1,7 +1,7 @@
 -- Each call of the C face, over words that are as many as they must be, is its request's call over what the words stand for; and so are calls one
 -- after another.
 use Prim.Native.Nat.{_≤_, ℕ}
-use Rattle.demands.specs.Calling.{Calls, Lent, Promised, Runs}
+use Rattle.demands.specs.Calling.{Calls, Lent, Promised, Runs, StoreChanges}
 use Rattle.demands.specs.Calling as D
 use Rattle.face.specs.Face.{Answers, roomy}
 use Rattle.face.specs.RecordFace.{clockWritten, longEnough, markWritten}
@@ -24,6 +24,8 @@ use Rattle.rules.specs.Papers.{Outcome, Paper, after, done, refused, says}
 use Rattle.rules.specs.Tests.{unless}
 use Rattle.schedule.specs.State.{State}
 use Rattle.scheduler.specs.Steps.{Answer, Request}
+use Rattle.store.specs.Calls.{modifyIn}
+use Rattle.store_laws.proofs.WrittenThrough.{written-through}
 use Rattle.tied.specs.Lending.{lending, told}
 use borrow.Author.Tests.{le-leb, leb-true}
 use lib.Dec.{eqb}
@@ -134,11 +136,9 @@ module _ (sw an : List ℕ) (t : FaceLent) (x : FaceAnswer) (u : FaceLent) (room
         answer = told (says k) [];
         tells = λ i. record { number = e .0 i; words = e .1 i; buffer = c .buffer i };
         call =
-            record {
-              answer = refl;
-              lent = ap standsFor (c .lent) ∙ ap (λ (st : List ℕ). lending (recordFrom (t .rec)) st (t .lens) (t .rows)) w;
-              buffer = refl;
-            };
+            subst (λ (v : Lent). StoreChanges (setupFrom sw) (standsFor t) (told (says k) []) v (λ ps. modifyIn ps a ys))
+            (sym (ap standsFor (c .lent) ∙ ap (λ (st : List ℕ). lending (recordFrom (t .rec)) st (t .lens) (t .rows)) w))
+            (record { tables = written-through su (t .store) (t .lens) a ys; rec = refl; rows = refl; buffer = refl });
         rec = subst (λ (v : FaceLent). longEnough (v .rec) ≡ true) (sym (c .lent)) long;
       }
 

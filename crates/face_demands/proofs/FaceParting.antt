@@ -15,12 +15,11 @@ use Rattle.lookup.specs.Calls.{ifHeld, ifNamed, judging, packetIn}
 use Rattle.lookup.specs.Promise.{Finds, foundAs, packetStart}
 use Rattle.lookup.specs.declared.Span.{Span}
 use Rattle.lookup.specs.declared.Whereabouts.the-variants as Wh
-use Rattle.modifying.specs.Modifying.{writtenOver}
 use Rattle.rules.specs.Papers.{Outcome, Paper, after, done, judgedBy, no, refused, says}
 use Rattle.rules.specs.Tests.{unless}
 use Rattle.slots.proofs.Lists.{part-length}
 use Rattle.slots.specs.Inside.{cellOf}
-use Rattle.slots.specs.Pools.{Found, find, held, noPool, noSlot, vacant}
+use Rattle.slots.specs.Pools.{Found, find, held, noPool, noSlot, over, vacant}
 use Rattle.slots.specs.View.{part, put, view}
 use borrow.Author.Tests.{ne-eqb}
 use lib.Dec.{eqb}
@@ -86,14 +85,15 @@ module _ (su : Setup) (st : List ℕ) (a : ℕ) (an : List ℕ) (x : FaceAnswer)
   part-tells o k (both-refuse p h) c = (c .number, words-are _ an _ _ room c ∙ rw (ne-eqb (p .number) 0 h))
   part-tells o k (both-find n b e l) c = (c .number, words-are _ an _ _ room c)
 
-  same-put : (from n m : ℕ) (ys b : List ℕ) → b ≡ part from n st → m ≡ n → writtenAt from n ys st ≡ put from m (writtenOver ys b) st
+  same-put : (from n : ℕ) (ys b : List ℕ) → b ≡ part from n st → length b ≡ n
+      → writtenAt from n ys st ≡ put from (length b) (over (take (length b) ys) b) st
   unfolding writtenAt
-  same-put from n m ys b e l = rw (l, e)
+  same-put from n ys b e l = rw (l, e)
 
   -- what the caller writes is what is written through modify
   pub part-writes : (o : Outcome (Unit {0})) (k : Outcome (List ℕ)) → Alike su st a o k → Answers o an (x .number) (x .words) → (ys : List ℕ)
-      → callerWrites x ys st ≡ after k st (λ b. put (packetStart su a) (length b) (writtenOver ys b) st)
+      → callerWrites x ys st ≡ after k st (λ b. put (packetStart su a) (length b) (over (take (length b) ys) b) st)
   unfolding callerWrites says unless after padded
   part-writes o k (both-refuse p h) c ys = rw (c .number, ne-eqb (p .number) 0 h)
   part-writes o k (both-find n b e l) c ys =
-      rw (c .number, words-are _ an _ _ room c) (same-put (packetStart su a) n (length b) ys b e l)
+      rw (c .number, words-are _ an _ _ room c) (same-put (packetStart su a) n ys b e l)
