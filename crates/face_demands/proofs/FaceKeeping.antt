@@ -6,8 +6,9 @@ use Rattle.face.specs.Face.{Answers, answered, answering, roomy}
 use Rattle.face.specs.RecordFace.{longEnough, recordCall}
 use Rattle.face.specs.ScheduleFace.{judgedCall, scheduleCall}
 use Rattle.face.specs.StoreFace.{partIn, storeCall}
+use Rattle.face_demands.proofs.FaceParting.{part-keeps}
 use Rattle.face_demands.proofs.FaceParts.{same-lent}
-use Rattle.face_demands.specs.FaceCalling.{FaceAnswer, FaceCalls, FaceLent, FaceLooks, FaceParts, FacePromised, FaceReads, FaceRecords, FaceRequest, FaceSchedules, FaceStores, FaceTicks, callerWrites, count, deleteById, deleteByIdKeep, deleteWindow, disable, enable, fresh, insertStored, insertUnwrapped, insertWrapped, request, reset, setClock, storeAdd, storeDelete, storeHas, storeLen, storeModify, storePart, storeRead, tick, window}
+use Rattle.face_demands.specs.FaceCalling.{FaceAnswer, FaceCalls, FaceLent, FaceLooks, FaceParts, FacePromised, FaceReads, FaceRecords, FaceRequest, FaceSchedules, FaceStores, FaceTicks, count, deleteById, deleteByIdKeep, deleteWindow, disable, enable, fresh, insertStored, insertUnwrapped, insertWrapped, request, reset, setClock, storeAdd, storeDelete, storeHas, storeLen, storeModify, storePart, storeRead, tick, window}
 use Rattle.face_demands.specs.FaceDemands.{EveryFaceCallAnswers, FaceAnswered}
 use Rattle.face_demands.specs.FaceStanding.{callOf, requestOf}
 use Rattle.face_reading.specs.Reading.{recordFrom, setupFrom, storeSetup, wellCounted}
@@ -32,7 +33,7 @@ use Rattle.tick.specs.Tick.{Logged}
 use Rattle.time.specs.Time.{inRange, marginInRange}
 use Rattle.time.specs.declared.Margin.{Margin}
 use Rattle.time.specs.declared.UnixTime.{UnixTime}
-use borrow.Author.Tests.{lt-leb, ne-eqb}
+use borrow.Author.Tests.{lt-leb}
 use lib.ListN.{drop, length, length-append, length-replicate, length-take, replicate, take}
 use lib.Seq.{drop-append-seam}
 use mathlib.Core.Bool.{Bool, _&&_, false, true}
@@ -133,12 +134,13 @@ module _ (sw an : List ℕ) (t : FaceLent) (x : FaceAnswer) (u : FaceLent) where
   reads o buf j c = answers o buf j (c .read .answer) (λ h. (c .lent, refused-read-keeps (c .read) h))
 
   parts : (o : Outcome (Unit {0})) (ys : List ℕ) → Judges an o → FaceParts sw an t x u o ys → FaceAnswered an [] x t u
-  unfolding callerWrites unless
   parts o ys j c =
       answers o [] j (c .answer)
-      (λ h.
-      let e : callerWrites x ys (t .store) ≡ t .store = rw (ne-eqb (x .number) 0 h) in
-      (c .lent ∙ ap (λ (st : List ℕ). record { rec = t .rec; store = st; lens = t .lens; rows = t .rows }) e, c .buffer))
+      (λ h. (
+        c .lent
+            ∙ ap (λ (st : List ℕ). record { rec = t .rec; store = st; lens = t .lens; rows = t .rows }) (part-keeps x ys (t .store) h),
+        c .buffer,
+      ))
 
   stores : (o : Outcome (List Pool)) → Judges an o → FaceStores sw an t x u o → FaceAnswered an [] x t u
   stores o j c =

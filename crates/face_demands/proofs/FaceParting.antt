@@ -75,6 +75,15 @@ module _ (su : Setup) (st le : List ℕ) (a : ℕ) where
           let s : Sound su st le = record { setup = p; buffers = q; lengths = r } in
           rw (judging-fine su st le (partIn a su) s, judging-fine su st le (λ ps. packetIn ps a) s) (sound-alike s)
 
+unwritten : (b : Bool) (st wr : List ℕ) → b ≡ false → unless b st wr ≡ st
+unfolding unless
+unwritten b st wr e = rw e
+
+-- a refusal: nothing is written
+pub part-keeps : (x : FaceAnswer) (ys st : List ℕ) → (x .number ≡ 0 → ⊥) → callerWrites x ys st ≡ st
+unfolding callerWrites
+part-keeps x ys st h = unwritten (eqb (x .number) 0) st _ (ne-eqb (x .number) 0 h)
+
 module _ (su : Setup) (st : List ℕ) (a : ℕ) (an : List ℕ) (x : FaceAnswer) (room : roomy an ≡ true) where
   -- the number is modify's, and the words are its values behind the offset
   pub part-tells : (o : Outcome (Unit {0})) (k : Outcome (List ℕ)) → Alike su st a o k → Answers o an (x .number) (x .words)
@@ -94,6 +103,6 @@ module _ (su : Setup) (st : List ℕ) (a : ℕ) (an : List ℕ) (x : FaceAnswer)
   pub part-writes : (o : Outcome (Unit {0})) (k : Outcome (List ℕ)) → Alike su st a o k → Answers o an (x .number) (x .words) → (ys : List ℕ)
       → callerWrites x ys st ≡ after k st (λ b. put (packetStart su a) (length b) (over (take (length b) ys) b) st)
   unfolding callerWrites says unless after padded
-  part-writes o k (both-refuse p h) c ys = rw (c .number, ne-eqb (p .number) 0 h)
+  part-writes o k (both-refuse p h) c ys = part-keeps x ys st (λ e. h (sym (c .number) ∙ e))
   part-writes o k (both-find n b e l) c ys =
       rw (c .number, words-are _ an _ _ room c) (same-put (packetStart su a) n ys b e l)
