@@ -1,5 +1,5 @@
 -- Demand 1 over the C face, for every function and anything lent.
-use Prim.Native.Nat.{_<_, _≤_, ℕ}
+use Prim.Native.Nat.{_≤_, ℕ}
 use Rattle.demands.specs.Calling.{lentTo}
 use Rattle.face.proofs.Once.{refusal-keeps-all, refused-read-keeps, refused-record-keeps, refused-store-keeps, refused-tick-keeps-all}
 use Rattle.face.specs.Face.{Answers, answered, answering, roomy}
@@ -34,7 +34,7 @@ use Rattle.time.specs.Time.{inRange, marginInRange}
 use Rattle.time.specs.declared.Margin.{Margin}
 use Rattle.time.specs.declared.UnixTime.{UnixTime}
 use borrow.Author.Tests.{lt-leb}
-use lib.ListN.{drop, length, length-append, length-replicate, length-take, replicate, take}
+use lib.ListN.{drop, length, length-append, length-replicate, length-take}
 use lib.Seq.{drop-append-seam}
 use mathlib.Core.Bool.{Bool, _&&_, false, true}
 use mathlib.Core.List.{List, [], _++_}

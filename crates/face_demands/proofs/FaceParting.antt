@@ -1,5 +1,5 @@
 -- `part` and what the caller then writes, over the store: it is what modify answers and leaves.
-use Prim.Native.Nat.{_+_, _≤_, ℕ}
+use Prim.Native.Nat.{ℕ}
 use Rattle.address.specs.Address.{addressOf, poolOf, slotOf}
 use Rattle.face.specs.Face.{Answers, roomy}
 use Rattle.face.specs.StoreFace.{partIn}
@@ -26,7 +26,7 @@ use lib.Dec.{eqb}
 use lib.ListN.{drop, length, take}
 use mathlib.Core.Bool.{Bool, false, true}
 use mathlib.Core.List.{List, [], _++_, _∷_}
-use mathlib.Core.Path.{_∙_, _≡_, ap, refl, subst, sym}
+use mathlib.Core.Path.{_∙_, _≡_, ap, refl, sym}
 use native.Mathlib.Omega.{arith}
 
 -- what `part` and what looking the packet up come to: the same refusal, or the packet b at its start

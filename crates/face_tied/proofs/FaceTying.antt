@@ -11,7 +11,7 @@ use lib.Dec.{eqb}
 use lib.IntN.{ℤ}
 use lib.ListN.{drop, take, take-append-drop}
 use mathlib.Core.Bool.{Bool, false, true}
-use mathlib.Core.List.{List, [], _++_, _∷_}
+use mathlib.Core.List.{List, []}
 use mathlib.Core.Path.{_≡_, ap, refl, subst, sym}
 use mir.Facts.{toZ-ofZ}
 use mir.Syntax.{w64}

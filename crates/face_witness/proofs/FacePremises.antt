@@ -5,10 +5,10 @@ use Rattle.face.specs.Face.{answered, answering}
 use Rattle.face.specs.ScheduleFace.{scheduleCall}
 use Rattle.face_demands.proofs.FaceKeepable.{face-runs-exist}
 use Rattle.face_demands.proofs.FaceSequences.{face-room-changes-no-answer, face-same-as-the-model}
-use Rattle.face_demands.specs.FaceCalling.{Asked, FaceAnswer, FaceBegins, FaceLent, FacePromised, FaceRuns}
+use Rattle.face_demands.specs.FaceCalling.{Asked, FaceAnswer, FaceBegins, FacePromised, FaceRuns}
 use Rattle.face_demands.specs.FaceDemands.{AllRoomy, FaceAnswersAlike, FaceRoomChangesNoAnswer, FaceRunsExist, FaceRunsTo, FaceSameAsTheModel, asAnswers}
 use Rattle.face_demands.specs.FaceStanding.{ahead, allTold, partAt, requestOf, requestsOf}
-use Rattle.face_reading.specs.Reading.{column, setupFrom, signedBy, switched, wellCounted}
+use Rattle.face_reading.specs.Reading.{column, setupFrom, switched, wellCounted}
 use Rattle.face_witness.specs.FaceGiven.{answers, before, before′, calls, fresh, fresh′, kept, keptAnswers, large, none, secs, small}
 use Rattle.face_witness.specs.FaceWitness.{FaceAlikeThere, FaceMet}
 use Rattle.face_words.specs.Padding.{padded}
@@ -40,7 +40,7 @@ use Rattle.witness.proofs.Bytes.{of-add, of-clock, of-count, of-modify, of-read
 use Rattle.words.specs.Words.{bytesOf}
 use lib.ListN.{replicate}
 use mathlib.Core.Bool.{false}
-use mathlib.Core.List.{List, [], _∷_}
+use mathlib.Core.List.{List, []}
 use mathlib.Core.Path.{_∙_, _≡_, refl, subst}
 use native.Mathlib.Omega.{arith}
 
