@@ -1,16 +1,16 @@
 -- Each call of the C face, over words that are as many as they must be, is its request's call over what the words stand for; and so are calls one
 -- after another.
-use Prim.Native.Nat.{_≤_, ℕ}
-use Rattle.demands.specs.Calling.{Calls, Lent, Promised, Runs}
+use Prim.Native.Nat.{ℕ}
+use Rattle.demands.specs.Calling.{Calls, Lent, Promised, Runs, StoreChanges}
 use Rattle.demands.specs.Calling as D
 use Rattle.face.specs.Face.{Answers, roomy}
 use Rattle.face.specs.RecordFace.{clockWritten, longEnough, markWritten}
-use Rattle.face.specs.ScheduleFace.{allWritten, countWritten, resetWritten}
+use Rattle.face.specs.ScheduleFace.{countWritten, resetWritten}
 use Rattle.face.specs.StoreFace.{partIn}
 use Rattle.face_demands.proofs.FaceParting.{alike, part-tells, part-writes}
-use Rattle.face_demands.specs.FaceCalling.{Asked, FaceAnswer, FaceCalls, FaceLent, FaceParts, FaceRequest, FaceRuns, callerWrites, count, deleteById, deleteByIdKeep, deleteWindow, disable, enable, insertStored, insertUnwrapped, insertWrapped, ofStore, reset, setClock, storeAdd, storeDelete, storeHas, storeLen, storeModify, storePart, storeRead, tick, window}
+use Rattle.face_demands.specs.FaceCalling.{Asked, FaceAnswer, FaceCalls, FaceLent, FaceParts, FaceRequest, FaceRuns, count, deleteById, deleteByIdKeep, deleteWindow, disable, enable, insertStored, insertUnwrapped, insertWrapped, ofStore, reset, setClock, storeAdd, storeDelete, storeHas, storeLen, storeModify, storePart, storeRead, tick, window}
 use Rattle.face_demands.specs.FaceDemands.{AllRoomy, FaceRunsStand, WordsStand}
-use Rattle.face_demands.specs.FaceStanding.{ahead, allTold, partAt, requestOf, requestsOf, standsFor, toldOf, valuesOf}
+use Rattle.face_demands.specs.FaceStanding.{ahead, partAt, requestOf, standsFor, toldOf, valuesOf}
 use Rattle.face_laws.proofs.FaceCalls.{add-face, clock-face, count-face, delete-by-id-face, delete-face, delete-keeping-face, delete-window-face, disable-face, enable-face, has-face, insert-stored-face, insert-unwrapped-face, insert-wrapped-face, len-face, modify-face, read-face, reset-face, retrieve-face, tick-face}
 use Rattle.face_laws.proofs.Wording.{stored-is}
 use Rattle.face_laws.specs.Standing.{CallsBy, Counted, standing}
@@ -18,21 +18,20 @@ use Rattle.face_reading.specs.Reading.{recordFrom, setupFrom, storeSetup, wellC
 use Rattle.face_words.specs.Padding.{answerWords, padded}
 use Rattle.layout.specs.declared.Setup.{Setup as StoreSetup}
 use Rattle.lookup.specs.Calls.{judging as storeJudging, packetIn}
-use Rattle.lookup.specs.Promise.{packetStart}
 use Rattle.record.specs.declared.Record.{Record}
 use Rattle.rules.specs.Papers.{Outcome, Paper, after, done, refused, says}
 use Rattle.rules.specs.Tests.{unless}
 use Rattle.schedule.specs.State.{State}
-use Rattle.scheduler.specs.Steps.{Answer, Request}
+use Rattle.scheduler.specs.Steps.{Answer}
+use Rattle.store.specs.Calls.{modifyIn}
+use Rattle.store_laws.proofs.WrittenThrough.{written-through}
 use Rattle.tied.specs.Lending.{lending, told}
-use borrow.Author.Tests.{le-leb, leb-true}
 use lib.Dec.{eqb}
 use lib.ListN.{drop, length, length-set, set}
 use mathlib.Core.Bool.{Bool, false, true}
 use mathlib.Core.List.{List, [], _++_, _∷_}
-use mathlib.Core.Option.{Option, none, some}
+use mathlib.Core.Option.{Option, none}
 use mathlib.Core.Path.{_∙_, _≡_, ap, ap₂, refl, subst, sym}
-use native.Mathlib.Omega.{arith}
 
 -- a call is its request's over what the words stand for, and its answer is told; the record has its words again
 record FaceStands (sw : List ℕ) (q : Asked) (t : FaceLent) (x : FaceAnswer) (u : FaceLent) : Type 0 where
@@ -126,7 +125,9 @@ module _ (sw an : List ℕ) (t : FaceLent) (x : FaceAnswer) (u : FaceLent) (room
       let su = storeSetup sw in
       let o = storeJudging su (t .store) (t .lens) (partIn a su) in
       let k = storeJudging su (t .store) (t .lens) (λ ps. packetIn ps a) in
-      let g = subst (λ (o : Outcome (Unit {0})). Answers o an (x .number) (x .words)) (stored-is an sw (t .store) (t .lens) room well (partIn a)) (c .answer) in
+      let g =
+      subst (λ (o : Outcome (Unit {0})). Answers o an (x .number) (x .words)) (stored-is an sw (t .store) (t .lens) room well (partIn a))
+      (c .answer) in
       let m = alike su (t .store) (t .lens) a in
       let e = part-tells su (t .store) a an x room o k m g in
       let w = part-writes su (t .store) a an x room o k m g ys in
@@ -134,11 +135,9 @@ module _ (sw an : List ℕ) (t : FaceLent) (x : FaceAnswer) (u : FaceLent) (room
         answer = told (says k) [];
         tells = λ i. record { number = e .0 i; words = e .1 i; buffer = c .buffer i };
         call =
-            record {
-              answer = refl;
-              lent = ap standsFor (c .lent) ∙ ap (λ (st : List ℕ). lending (recordFrom (t .rec)) st (t .lens) (t .rows)) w;
-              buffer = refl;
-            };
+            subst (λ (v : Lent). StoreChanges (setupFrom sw) (standsFor t) (told (says k) []) v (λ ps. modifyIn ps a ys))
+            (sym (ap standsFor (c .lent) ∙ ap (λ (st : List ℕ). lending (recordFrom (t .rec)) st (t .lens) (t .rows)) w))
+            (record { tables = written-through su (t .store) (t .lens) a ys; rec = refl; rows = refl; buffer = refl });
         rec = subst (λ (v : FaceLent). longEnough (v .rec) ≡ true) (sym (c .lent)) long;
       }
 

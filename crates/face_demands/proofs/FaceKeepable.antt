@@ -1,9 +1,8 @@
 -- Every promise of the C face can be kept, whatever is lent, of one call and of any number of calls.
 use Prim.Native.Nat.{ℕ}
 use Rattle.face.specs.Face.{answered, answering}
-use Rattle.face.specs.RecordFace.{clockWritten, markWritten}
 use Rattle.face.specs.ScheduleFace.{allWritten, countWritten, scheduleCall}
-use Rattle.face_demands.specs.FaceCalling.{Asked, FaceAnswer, FaceCalls, FaceLent, FaceLooks, FacePromised, FaceRecords, FaceRequest, FaceRuns, FaceSchedules, FaceStores, callerWrites, count, deleteById, deleteByIdKeep, deleteWindow, disable, enable, fresh, insertStored, insertUnwrapped, insertWrapped, ofRecord, ofSchedule, ofStart, ofStore, request, reset, setClock, storeAdd, storeDelete, storeHas, storeLen, storeModify, storePart, storeRead, tick, window}
+use Rattle.face_demands.specs.FaceCalling.{Asked, FaceAnswer, FaceCalls, FaceLent, FaceLooks, FacePromised, FaceRecords, FaceRequest, FaceRuns, FaceSchedules, FaceStores, callerWrites, count, deleteById, deleteByIdKeep, deleteWindow, disable, enable, fresh, insertStored, insertUnwrapped, insertWrapped, ofSchedule, ofStart, ofStore, request, reset, setClock, storeAdd, storeDelete, storeHas, storeLen, storeModify, storePart, storeRead, tick, window}
 use Rattle.face_demands.specs.FaceDemands.{FaceResult, FaceRunsExist, FaceRunsTo, FaceStartsExist, SomeFaceOutcome}
 use Rattle.face_reading.specs.Reading.{storeSetup, word}
 use Rattle.face.specs.StoreFace.{partIn}

@@ -1,21 +1,21 @@
 -- Demand 1 over the C face, for every function and anything lent.
-use Prim.Native.Nat.{_<_, _≤_, ℕ}
+use Prim.Native.Nat.{_≤_, ℕ}
 use Rattle.demands.specs.Calling.{lentTo}
 use Rattle.face.proofs.Once.{refusal-keeps-all, refused-read-keeps, refused-record-keeps, refused-store-keeps, refused-tick-keeps-all}
 use Rattle.face.specs.Face.{Answers, answered, answering, roomy}
 use Rattle.face.specs.RecordFace.{longEnough, recordCall}
 use Rattle.face.specs.ScheduleFace.{judgedCall, scheduleCall}
 use Rattle.face.specs.StoreFace.{partIn, storeCall}
+use Rattle.face_demands.proofs.FaceParting.{part-keeps}
 use Rattle.face_demands.proofs.FaceParts.{same-lent}
-use Rattle.face_demands.specs.FaceCalling.{FaceAnswer, FaceCalls, FaceLent, FaceLooks, FaceParts, FacePromised, FaceReads, FaceRecords, FaceRequest, FaceSchedules, FaceStores, FaceTicks, callerWrites, count, deleteById, deleteByIdKeep, deleteWindow, disable, enable, fresh, insertStored, insertUnwrapped, insertWrapped, request, reset, setClock, storeAdd, storeDelete, storeHas, storeLen, storeModify, storePart, storeRead, tick, window}
+use Rattle.face_demands.specs.FaceCalling.{FaceAnswer, FaceCalls, FaceLent, FaceLooks, FaceParts, FacePromised, FaceReads, FaceRecords, FaceRequest, FaceSchedules, FaceStores, FaceTicks, count, deleteById, deleteByIdKeep, deleteWindow, disable, enable, fresh, insertStored, insertUnwrapped, insertWrapped, request, reset, setClock, storeAdd, storeDelete, storeHas, storeLen, storeModify, storePart, storeRead, tick, window}
 use Rattle.face_demands.specs.FaceDemands.{EveryFaceCallAnswers, FaceAnswered}
 use Rattle.face_demands.specs.FaceStanding.{callOf, requestOf}
 use Rattle.face_reading.specs.Reading.{recordFrom, setupFrom, storeSetup, wellCounted}
 use Rattle.face_words.specs.Padding.{answerWords, padded}
 use Rattle.layout.specs.Judge.{judged}
 use Rattle.layout.specs.declared.Setup.{Setup as StoreSetup}
-use Rattle.lookup.specs.Calls.{ifHeld, ifNamed, judging as storeJudging}
-use Rattle.lookup.specs.Promise.{packetStart}
+use Rattle.lookup.specs.Calls.{judging as storeJudging, packetIn}
 use Rattle.record.specs.declared.Record.{Record}
 use Rattle.rules.proofs.Order.{through-says}
 use Rattle.rules.specs.Papers.{Outcome, done, judgedBy, no, refused, says}
@@ -23,21 +23,21 @@ use Rattle.rules.specs.Tests.{unless}
 use Rattle.schedule.specs.Judge.{buffersOk, judging, setupOk}
 use Rattle.schedule.specs.State.{State, stateOf}
 use Rattle.schedule.specs.declared.Setup.{Setup}
-use Rattle.scheduler.proofs.Numbers.{clock-numbered, judged-most, mark-numbered, own-add, own-by-id, own-count, own-delete, own-has, own-keeping, own-len, own-packet, own-read, own-reset, own-retrieve, own-stored, own-tick, own-unless, own-unwrapped, own-window, own-wrapped}
+use Rattle.scheduler.proofs.Numbers.{clock-numbered, judged-most, mark-numbered, own-add, own-by-id, own-count, own-delete, own-has, own-held, own-keeping, own-len, own-read, own-reset, own-retrieve, own-stored, own-tick, own-unless, own-unwrapped, own-window, own-wrapped}
 use Rattle.scheduler.specs.Laws.{Own}
 use Rattle.scheduler.specs.Steps.{bufferOf}
-use Rattle.slots.specs.Pools.{Found, Pool, find, held, noPool, noSlot, vacant}
+use Rattle.slots.specs.Pools.{Pool, find}
 use Rattle.slots.specs.View.{view}
 use Rattle.starting.specs.Starting.{freshState, startIn}
 use Rattle.tick.specs.Tick.{Logged}
 use Rattle.time.specs.Time.{inRange, marginInRange}
 use Rattle.time.specs.declared.Margin.{Margin}
 use Rattle.time.specs.declared.UnixTime.{UnixTime}
-use borrow.Author.Tests.{lt-leb, ne-eqb}
-use lib.ListN.{drop, length, length-append, length-replicate, length-take, replicate, take}
+use borrow.Author.Tests.{lt-leb}
+use lib.ListN.{drop, length, length-append, length-replicate, length-take}
 use lib.Seq.{drop-append-seam}
 use mathlib.Core.Bool.{Bool, _&&_, false, true}
-use mathlib.Core.List.{List, [], _++_, _∷_}
+use mathlib.Core.List.{List, [], _++_}
 use mathlib.Core.Path.{_∙_, _≡_, ap, refl, subst}
 use native.Mathlib.Omega.{arith}
 
@@ -104,15 +104,13 @@ start-judges an sw ws a b d c m =
     (judged-most (setupOk su) (buffersOk su a b d) true (unless (inRange c && marginInRange m) (refused (no 4 [])) (done [] (freshState su c m)))
     (own-unless (inRange c && marginInRange m) (refused (no 4 [])) (done [] (freshState su c m)) (omega arith, omega arith) tt))
 
+own-packet : (ps : List Pool) (a : ℕ) → Own (packetIn ps a)
+unfolding packetIn
+own-packet ps a = own-held a (find ps a) _ (λ n b. tt)
+
 own-part : (a : ℕ) (su : StoreSetup) (ps : List Pool) → Own (partIn a su ps)
-unfolding partIn ifHeld ifNamed
-own-part a su ps = go (find ps a)
-  where
-    go : (x : Found) → Own {A = Unit {0}} (ifHeld a x (λ n b. done (packetStart su a ∷ n ∷ []) tt))
-    go noPool = (omega arith, omega arith)
-    go noSlot = (omega arith, omega arith)
-    go vacant = (omega arith, omega arith)
-    go (held n b) = tt
+unfolding partIn
+own-part a su ps = own-held a (find ps a) _ (λ n b. tt)
 
 module _ (sw an : List ℕ) (t : FaceLent) (x : FaceAnswer) (u : FaceLent) where
   -- number and words as they must be, and nothing lent changed by a refusal
@@ -136,12 +134,13 @@ module _ (sw an : List ℕ) (t : FaceLent) (x : FaceAnswer) (u : FaceLent) where
   reads o buf j c = answers o buf j (c .read .answer) (λ h. (c .lent, refused-read-keeps (c .read) h))
 
   parts : (o : Outcome (Unit {0})) (ys : List ℕ) → Judges an o → FaceParts sw an t x u o ys → FaceAnswered an [] x t u
-  unfolding callerWrites unless
   parts o ys j c =
       answers o [] j (c .answer)
-      (λ h.
-      let e : callerWrites x ys (t .store) ≡ t .store = rw (ne-eqb (x .number) 0 h) in
-      (c .lent ∙ ap (λ (st : List ℕ). record { rec = t .rec; store = st; lens = t .lens; rows = t .rows }) e, c .buffer))
+      (λ h. (
+        c .lent
+            ∙ ap (λ (st : List ℕ). record { rec = t .rec; store = st; lens = t .lens; rows = t .rows }) (part-keeps x ys (t .store) h),
+        c .buffer,
+      ))
 
   stores : (o : Outcome (List Pool)) → Judges an o → FaceStores sw an t x u o → FaceAnswered an [] x t u
   stores o j c =

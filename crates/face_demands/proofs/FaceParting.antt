@@ -1,5 +1,5 @@
 -- `part` and what the caller then writes, over the store: it is what modify answers and leaves.
-use Prim.Native.Nat.{_+_, _≤_, ℕ}
+use Prim.Native.Nat.{ℕ}
 use Rattle.address.specs.Address.{addressOf, poolOf, slotOf}
 use Rattle.face.specs.Face.{Answers, roomy}
 use Rattle.face.specs.StoreFace.{partIn}
@@ -15,19 +15,18 @@ use Rattle.lookup.specs.Calls.{ifHeld, ifNamed, judging, packetIn}
 use Rattle.lookup.specs.Promise.{Finds, foundAs, packetStart}
 use Rattle.lookup.specs.declared.Span.{Span}
 use Rattle.lookup.specs.declared.Whereabouts.the-variants as Wh
-use Rattle.modifying.specs.Modifying.{writtenOver}
 use Rattle.rules.specs.Papers.{Outcome, Paper, after, done, judgedBy, no, refused, says}
 use Rattle.rules.specs.Tests.{unless}
 use Rattle.slots.proofs.Lists.{part-length}
 use Rattle.slots.specs.Inside.{cellOf}
-use Rattle.slots.specs.Pools.{Found, find, held, noPool, noSlot, vacant}
+use Rattle.slots.specs.Pools.{Found, find, held, noPool, noSlot, over, vacant}
 use Rattle.slots.specs.View.{part, put, view}
 use borrow.Author.Tests.{ne-eqb}
 use lib.Dec.{eqb}
 use lib.ListN.{drop, length, take}
 use mathlib.Core.Bool.{Bool, false, true}
 use mathlib.Core.List.{List, [], _++_, _∷_}
-use mathlib.Core.Path.{_∙_, _≡_, ap, refl, subst, sym}
+use mathlib.Core.Path.{_∙_, _≡_, ap, refl, sym}
 use native.Mathlib.Omega.{arith}
 
 -- what `part` and what looking the packet up come to: the same refusal, or the packet b at its start
@@ -76,6 +75,15 @@ module _ (su : Setup) (st le : List ℕ) (a : ℕ) where
           let s : Sound su st le = record { setup = p; buffers = q; lengths = r } in
           rw (judging-fine su st le (partIn a su) s, judging-fine su st le (λ ps. packetIn ps a) s) (sound-alike s)
 
+unwritten : (b : Bool) (st wr : List ℕ) → b ≡ false → unless b st wr ≡ st
+unfolding unless
+unwritten b st wr e = rw e
+
+-- a refusal: nothing is written
+pub part-keeps : (x : FaceAnswer) (ys st : List ℕ) → (x .number ≡ 0 → ⊥) → callerWrites x ys st ≡ st
+unfolding callerWrites
+part-keeps x ys st h = unwritten (eqb (x .number) 0) st _ (ne-eqb (x .number) 0 h)
+
 module _ (su : Setup) (st : List ℕ) (a : ℕ) (an : List ℕ) (x : FaceAnswer) (room : roomy an ≡ true) where
   -- the number is modify's, and the words are its values behind the offset
   pub part-tells : (o : Outcome (Unit {0})) (k : Outcome (List ℕ)) → Alike su st a o k → Answers o an (x .number) (x .words)
@@ -86,14 +94,15 @@ module _ (su : Setup) (st : List ℕ) (a : ℕ) (an : List ℕ) (x : FaceAnswer)
   part-tells o k (both-refuse p h) c = (c .number, words-are _ an _ _ room c ∙ rw (ne-eqb (p .number) 0 h))
   part-tells o k (both-find n b e l) c = (c .number, words-are _ an _ _ room c)
 
-  same-put : (from n m : ℕ) (ys b : List ℕ) → b ≡ part from n st → m ≡ n → writtenAt from n ys st ≡ put from m (writtenOver ys b) st
+  same-put : (from n : ℕ) (ys b : List ℕ) → b ≡ part from n st → length b ≡ n
+      → writtenAt from n ys st ≡ put from (length b) (over (take (length b) ys) b) st
   unfolding writtenAt
-  same-put from n m ys b e l = rw (l, e)
+  same-put from n ys b e l = rw (l, e)
 
   -- what the caller writes is what is written through modify
   pub part-writes : (o : Outcome (Unit {0})) (k : Outcome (List ℕ)) → Alike su st a o k → Answers o an (x .number) (x .words) → (ys : List ℕ)
-      → callerWrites x ys st ≡ after k st (λ b. put (packetStart su a) (length b) (writtenOver ys b) st)
+      → callerWrites x ys st ≡ after k st (λ b. put (packetStart su a) (length b) (over (take (length b) ys) b) st)
   unfolding callerWrites says unless after padded
-  part-writes o k (both-refuse p h) c ys = rw (c .number, ne-eqb (p .number) 0 h)
+  part-writes o k (both-refuse p h) c ys = part-keeps x ys st (λ e. h (sym (c .number) ∙ e))
   part-writes o k (both-find n b e l) c ys =
-      rw (c .number, words-are _ an _ _ room c) (same-put (packetStart su a) n (length b) ys b e l)
+      rw (c .number, words-are _ an _ _ room c) (same-put (packetStart su a) n ys b e l)

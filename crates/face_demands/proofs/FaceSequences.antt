@@ -8,8 +8,8 @@ use Rattle.face.specs.RecordFace.{longEnough}
 use Rattle.face.specs.ScheduleFace.{allWritten}
 use Rattle.face_demands.proofs.FaceFollowing.{left-long, words-stand}
 use Rattle.face_demands.proofs.FaceKeepable.{face-runs-exist}
-use Rattle.face_demands.specs.FaceCalling.{Asked, FaceAnswer, FaceBegins, FaceLent, FacePromised, FaceRuns, ofStart}
-use Rattle.face_demands.specs.FaceDemands.{AllAlike, AllRoomy, FaceAlike, FaceAnswersAlike, FaceAsTheModel, FaceNeverDamaged, FaceRoomChangesNoAnswer, FaceRunsExist, FaceSameAsTheModel, NoneBad, WordsStand, asAnswers, behindOffset}
+use Rattle.face_demands.specs.FaceCalling.{Asked, FaceAnswer, FaceBegins, FaceLent, FacePromised, ofStart}
+use Rattle.face_demands.specs.FaceDemands.{AllAlike, AllRoomy, FaceAlike, FaceAnswersAlike, FaceNeverDamaged, FaceRoomChangesNoAnswer, FaceRunsExist, FaceSameAsTheModel, NoneBad, WordsStand, asAnswers, behindOffset}
 use Rattle.face_demands.specs.FaceStanding.{ahead, allTold, partAt, requestOf, requestsOf, standsFor, toldOf}
 use Rattle.face_laws.proofs.FaceCalls.{start-face}
 use Rattle.face_laws.proofs.Kept.{and-first}
@@ -18,13 +18,11 @@ use Rattle.face_laws.specs.Standing.{Counted}
 use Rattle.face_reading.specs.Reading.{recordWords, setupFrom, storeSetup, wellCounted}
 use Rattle.face_words.specs.Padding.{answerWords, padded}
 use Rattle.layout.specs.declared.Setup.{Setup as StoreSetup}
-use Rattle.room.specs.Room.{EveryNamed, Roomier, Spills, strike, struck}
+use Rattle.room.specs.Room.{strike, struck}
 use Rattle.rules.specs.Papers.{Outcome, no, refused, says}
 use Rattle.rules.specs.Tests.{unless}
 use Rattle.schedule.specs.State.{State}
-use Rattle.scheduler.specs.Fits.{AllOfBytes}
 use Rattle.scheduler.specs.Steps.{Answer, Request}
-use Rattle.starting.specs.Starting.{startIn}
 use Rattle.tied.specs.Lending.{told}
 use Rattle.time.specs.declared.Margin.{Margin}
 use Rattle.time.specs.declared.UnixTime.{UnixTime}
@@ -191,7 +189,8 @@ face-room-changes-no-answer larger sw lw clock margin qs before fresh end before
           (begun-long lw clock margin before′ fresh′ b′) (struck-roomy (numbers sw qs xs) qs a) h in
           let e =
           k .always (v .answers) (standsFor u)
-          (subst (λ (qs : List Request). Runs (setupFrom lw) qs (standsFor fresh′) (v .answers) (standsFor u)) (struck-requests sw qs xs) (v .runs)) in
+          (subst (λ (rs : List Request). Runs (setupFrom lw) rs (standsFor fresh′) (v .answers) (standsFor u)) (struck-requests sw qs xs)
+          (v .runs)) in
           subst (λ (g : List FaceAnswer). AllAlike (strike (numbers sw qs xs) qs) (strike (numbers sw qs xs) (allTold sw qs xs)) g)
           (sym (v .told ∙ ap (allTold lw (strike (numbers sw qs xs) qs)) e)) (struck-alike sw lw qs xs);
     })

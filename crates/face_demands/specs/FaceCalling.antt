@@ -13,7 +13,6 @@ use Rattle.gate.specs.Entering.{insertStoredIn}
 use Rattle.insertions.specs.Inserting.{insertUnwrappedIn}
 use Rattle.layout.specs.declared.Setup.{Setup as StoreSetup}
 use Rattle.lookup.specs.Calls.{packetIn}
-use Rattle.modifying.specs.Modifying.{writtenOver}
 use Rattle.presence.specs.Presence.{hasIn, lenIn}
 use Rattle.reading.specs.Reading.{readIn}
 use Rattle.record.specs.Record.{clockIn, markIn}
@@ -22,7 +21,7 @@ use Rattle.rules.specs.Papers.{Outcome}
 use Rattle.rules.specs.Tests.{unless}
 use Rattle.schedule.specs.State.{State}
 use Rattle.schedule.specs.declared.Setup.{Setup}
-use Rattle.slots.specs.Pools.{Pool}
+use Rattle.slots.specs.Pools.{Pool, over}
 use Rattle.slots.specs.View.{part, put}
 use Rattle.starting.specs.Starting.{startIn}
 use Rattle.store.specs.Calls.{addIn, deleteIn}
@@ -32,7 +31,7 @@ use Rattle.time.specs.declared.UnixTime.{UnixTime}
 use Rattle.windows.specs.Windowing.{retrieveIn}
 use Rattle.wrapped.specs.Wrapped.{insertWrappedIn}
 use lib.Dec.{eqb}
-use lib.ListN.{length}
+use lib.ListN.{length, take}
 use mathlib.Core.Bool.{Bool, false, true}
 use mathlib.Core.List.{List, [], _∷_}
 use mathlib.Core.Path.{_≡_}
@@ -75,7 +74,7 @@ pub record FaceAnswer : Type 0 where
 -- what the caller himself writes after `part`, where it returned 0: ys over the bytes of his store from the place that the answer's first word
 -- names, as many as its second says. Fewer leave the rest, and what goes further is no part of the request
 unfoldable pub writtenAt : ℕ → ℕ → List ℕ → List ℕ → List ℕ
-writtenAt from n ys st = put from n (writtenOver ys (part from n st)) st
+writtenAt from n ys st = put from n (over (take n ys) (part from n st)) st
 
 unfoldable pub callerWrites : FaceAnswer → List ℕ → List ℕ → List ℕ
 callerWrites x ys st = unless (eqb (x .number) 0) st (writtenAt (word (x .words) 0) (word (x .words) 1) ys st)

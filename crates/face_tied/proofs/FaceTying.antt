@@ -1,9 +1,8 @@
 -- The promise of `part` alone, whose caller writes no bytes: the store is as it was. And the promises of calls that are given signed seconds,
 -- which a function holds as bits and hands on as what the machine reads back.
-use Prim.Native.Nat.{ℕ}
+use Prim.Native.Nat.{suc, zero, ℕ}
 use Rattle.face.specs.Face.{Answers}
 use Rattle.face_demands.specs.FaceCalling.{FaceAnswer, FaceCall, FaceLent, FaceParts, FacePromised, callerWrites, writtenAt}
-use Rattle.modifying.specs.Modifying.{writtenOver}
 use Rattle.rules.specs.Papers.{Outcome}
 use Rattle.rules.specs.Tests.{unless}
 use Rattle.slots.specs.Pools.{over}
@@ -12,21 +11,21 @@ use lib.Dec.{eqb}
 use lib.IntN.{ℤ}
 use lib.ListN.{drop, take, take-append-drop}
 use mathlib.Core.Bool.{Bool, false, true}
-use mathlib.Core.List.{List, [], _++_, _∷_}
+use mathlib.Core.List.{List, []}
 use mathlib.Core.Path.{_≡_, ap, refl, subst, sym}
 use mir.Facts.{toZ-ofZ}
 use mir.Syntax.{w64}
 use mir.Val.{SFits, ofZ, toZ}
 
-nothing-over : (b : List ℕ) → writtenOver [] b ≡ b
+nothing-over : (n : ℕ) (b : List ℕ) → over (take n []) b ≡ b
 unfolding over
-nothing-over [] = refl
-nothing-over (x ∷ b) = refl
+nothing-over zero b = refl
+nothing-over (suc n) b = refl
 
 nothing-at : (from n : ℕ) (st : List ℕ) → writtenAt from n [] st ≡ st
 unfolding writtenAt put part
 nothing-at from n st =
-    rw (nothing-over (take n (drop from st)), take-append-drop n (drop from st), take-append-drop from st)
+    rw (nothing-over n (take n (drop from st)), take-append-drop n (drop from st), take-append-drop from st)
 
 nothing-by : (b : Bool) (st wr : List ℕ) → wr ≡ st → unless b st wr ≡ st
 unfolding unless

@@ -82,7 +82,7 @@ own-named a noSlot v f h k = (omega arith, omega arith)
 own-named a vacant v f h k = h
 own-named a (held n b) v f h k = k n b
 
-own-held : {A : Type 0} (a : ℕ) (x : Found) (f : ℕ → List ℕ → Outcome A) → ((n : ℕ) (b : List ℕ) → Own (f n b)) → Own (ifHeld a x f)
+pub own-held : {A : Type 0} (a : ℕ) (x : Found) (f : ℕ → List ℕ → Outcome A) → ((n : ℕ) (b : List ℕ) → Own (f n b)) → Own (ifHeld a x f)
 unfolding ifHeld
 own-held a x f k = own-named a x _ f (omega arith, omega arith) k
 

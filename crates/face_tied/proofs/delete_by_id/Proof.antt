@@ -7,7 +7,11 @@ use Rattle.face_tied.proofs.delete_by_id.Tie as tie
 
 returns : tie.Need-returns
 unfolding FaceCalls
-returns c = record { tables = c .before .before .before .before .before .before .before .before .before .before .silotwist-delete-by-id .ensures; buffer = refl }
+returns c =
+    let e = c .before .before .before .before .before .before .before .before .before .before in
+    record { tables = e .silotwist-delete-by-id .ensures; buffer = refl }
 
 pub delete-by-id-spec : {M : Type 1} → statement M
-delete-by-id-spec = tie.close (tie.spec (λ c κs. search needs) (λ c. search needs) (λ c. search needs) (λ c. search needs) (λ c. search needs) (λ c. search needs) returns)
+delete-by-id-spec =
+    tie.close
+    (tie.spec (λ c κs. search needs) (λ c. search needs) (λ c. search needs) (λ c. search needs) (λ c. search needs) (λ c. search needs) returns)

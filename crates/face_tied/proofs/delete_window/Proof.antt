@@ -19,4 +19,6 @@ returns c =
     (record { tables = e .silotwist-delete-window .ensures; buffer = refl })
 
 pub delete-window-spec : {M : Type 1} → statement M
-delete-window-spec = tie.close (tie.spec (λ c κs. search needs) (λ c. search needs) (λ c. search needs) (λ c. search needs) (λ c. search needs) (λ c. search needs) returns)
+delete-window-spec =
+    tie.close
+    (tie.spec (λ c κs. search needs) (λ c. search needs) (λ c. search needs) (λ c. search needs) (λ c. search needs) (λ c. search needs) returns)

@@ -16,4 +16,6 @@ returns c =
     (record { tables = e .silotwist-insert-stored .ensures; buffer = refl })
 
 pub insert-stored-spec : {M : Type 1} → statement M
-insert-stored-spec = tie.close (tie.spec (λ c κs. search needs) (λ c. search needs) (λ c. search needs) (λ c. search needs) (λ c. search needs) (λ c. search needs) returns)
+insert-stored-spec =
+    tie.close
+    (tie.spec (λ c κs. search needs) (λ c. search needs) (λ c. search needs) (λ c. search needs) (λ c. search needs) (λ c. search needs) returns)

@@ -16,4 +16,6 @@ returns c =
     (record { tables = e .silotwist-insert-unwrapped .ensures; buffer = refl })
 
 pub insert-unwrapped-spec : {M : Type 1} → statement M
-insert-unwrapped-spec = tie.close (tie.spec (λ c κs. search needs) (λ c. search needs) (λ c. search needs) (λ c. search needs) (λ c. search needs) (λ c. search needs) returns)
+insert-unwrapped-spec =
+    tie.close
+    (tie.spec (λ c κs. search needs) (λ c. search needs) (λ c. search needs) (λ c. search needs) (λ c. search needs) (λ c. search needs) returns)

@@ -7,7 +7,11 @@ use Rattle.face_tied.proofs.insert_wrapped.Tie as tie
 
 returns : tie.Need-returns
 unfolding FaceCalls
-returns c = record { tables = c .before .before .before .before .before .before .before .before .before .before .silotwist-insert-wrapped .ensures; buffer = refl }
+returns c =
+    let e = c .before .before .before .before .before .before .before .before .before .before in
+    record { tables = e .silotwist-insert-wrapped .ensures; buffer = refl }
 
 pub insert-wrapped-spec : {M : Type 1} → statement M
-insert-wrapped-spec = tie.close (tie.spec (λ c κs. search needs) (λ c. search needs) (λ c. search needs) (λ c. search needs) (λ c. search needs) (λ c. search needs) returns)
+insert-wrapped-spec =
+    tie.close
+    (tie.spec (λ c κs. search needs) (λ c. search needs) (λ c. search needs) (λ c. search needs) (λ c. search needs) (λ c. search needs) returns)

@@ -7,7 +7,11 @@ use Rattle.face_tied.proofs.reset.Tie as tie
 
 returns : tie.Need-returns
 unfolding FaceCalls
-returns c = record { tables = c .before .before .before .before .before .before .before .before .before .before .silotwist-reset .ensures; buffer = refl }
+returns c =
+    let e = c .before .before .before .before .before .before .before .before .before .before in
+    record { tables = e .silotwist-reset .ensures; buffer = refl }
 
 pub reset-spec : {M : Type 1} → statement M
-reset-spec = tie.close (tie.spec (λ c κs. search needs) (λ c. search needs) (λ c. search needs) (λ c. search needs) (λ c. search needs) (λ c. search needs) returns)
+reset-spec =
+    tie.close
+    (tie.spec (λ c κs. search needs) (λ c. search needs) (λ c. search needs) (λ c. search needs) (λ c. search needs) (λ c. search needs) returns)

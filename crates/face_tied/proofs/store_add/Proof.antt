@@ -7,7 +7,9 @@ use Rattle.face_tied.proofs.store_add.Tie as tie
 
 returns : tie.Need-returns
 unfolding FaceCalls
-returns c = record { tables = c .before .before .before .before .before .before .silotwist-store-add .ensures; rec = refl; rows = refl; buffer = refl }
+returns c =
+    let e = c .before .before .before .before .before .before in
+    record { tables = e .silotwist-store-add .ensures; rec = refl; rows = refl; buffer = refl }
 
 pub store-add-spec : {M : Type 1} → statement M
 store-add-spec = tie.close (tie.spec (λ c κs. search needs) (λ c. search needs) (λ c. search needs) (λ c. search needs) returns)

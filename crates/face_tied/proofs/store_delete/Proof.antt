@@ -7,7 +7,9 @@ use Rattle.face_tied.proofs.store_delete.Tie as tie
 
 returns : tie.Need-returns
 unfolding FaceCalls
-returns c = record { tables = c .before .before .before .before .before .before .silotwist-store-delete .ensures; rec = refl; rows = refl; buffer = refl }
+returns c =
+    let e = c .before .before .before .before .before .before in
+    record { tables = e .silotwist-store-delete .ensures; rec = refl; rows = refl; buffer = refl }
 
 pub store-delete-spec : {M : Type 1} → statement M
 store-delete-spec = tie.close (tie.spec (λ c κs. search needs) (λ c. search needs) (λ c. search needs) (λ c. search needs) returns)

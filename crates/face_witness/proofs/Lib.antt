@@ -1,0 +1,2 @@
+-- The premises are met.
+pub mod FacePremises

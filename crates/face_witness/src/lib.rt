@@ -1,0 +1,1 @@
+// No code: the premises of the demands over the C face, met by words that are given.
