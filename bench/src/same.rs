@@ -1,5 +1,5 @@
 //! Before anything is timed: both sides do the same, and the loops test the same.
-use crate::loops::{in_order, in_order_by_128_bits};
+use crate::loops::{in_order, in_order_by_128_bits, in_order_by_fours, within, within_counted};
 use crate::original::Original;
 use crate::packets;
 use crate::plan::{self, Call, CALLS, SIZES};
@@ -38,10 +38,15 @@ fn same_calls() {
     }
 }
 
-/// The library and both loops on the same tables.
+/// The library and the loops on the same tables.
 fn judged(this: &mut This) -> u32 {
     let number = this.count();
-    for by_loop in [this.judge(in_order), this.judge(in_order_by_128_bits)] {
+    let by_loops = [
+        this.judge(in_order, within),
+        this.judge(in_order_by_128_bits, within),
+        this.judge(in_order_by_fours, within_counted),
+    ];
+    for by_loop in by_loops {
         match by_loop {
             Ok(count) => assert_eq!((number, this.answer[0]), (0, count)),
             Err(refusal) => assert_eq!(number, refusal),
@@ -83,11 +88,14 @@ fn same_judging() {
 
 fn same_code() {
     let mut this = This::new(Call::InsertUnwrapped, 16);
-    for length in [13, 100, 65_536] {
+    for length in (13..=64).chain([100, 1_026, 4_098, 65_536]) {
         let mut packet = nested(length);
         assert_eq!(packet[length - 2..], crc16(&packet[..length - 2]).to_be_bytes());
         assert_eq!(this.insert_unwrapped(&packet), 10);
         packet[length - 3] ^= 1;
+        assert_eq!(this.insert_unwrapped(&packet), 9);
+        packet[length - 3] ^= 1;
+        packet[0] = 0;
         assert_eq!(this.insert_unwrapped(&packet), 9);
     }
 }

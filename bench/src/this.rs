@@ -185,10 +185,12 @@ impl This {
         )
     }
 
-    /// The same judging by a plain loop.
-    pub fn judge(&self, in_order: impl Fn(&[u64]) -> bool) -> Result<u64, u32> {
+    /// The same judging by plain loops.
+    pub fn judge(
+        &self, in_order: impl Fn(&[u64]) -> bool, within: impl Fn(&[u16], u64) -> bool,
+    ) -> Result<u64, u32> {
         let t = &self.now;
-        loops::judge(&self.setup, &t.record, &t.store, &t.lens, &t.rows, in_order)
+        loops::judge(&self.setup, &t.record, &t.store, &t.lens, &t.rows, in_order, within)
     }
 
     /// The call of the plan: what is timed.

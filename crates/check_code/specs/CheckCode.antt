@@ -1,7 +1,7 @@
 -- The check code, one bit at a time (document 01, module 1; ECSS-E-ST-70-41C's packet error control): CRC-16 with the
 -- polynomial 0x1021, from 0xFFFF, high bit first, nothing reflected, no final exclusive-or.
-use Rattle.rules.specs.Lists.{each}
 use Prim.Native.Nat.{_%_, _*_, _/_, suc, zero, ℕ}
+use Rattle.rules.specs.Lists.{each}
 use lib.Bits.{bitXor}
 use mathlib.Core.List.{List, [], _∷_}
 

@@ -1,2 +1,3 @@
 -- The check code.
 pub mod CheckCode
+pub mod Inside

@@ -1,15 +1,17 @@
 -- Where a subpool's rows and bytes lie, and which setups are good.
-use Prim.Native.Nat.{_*_, _+_, _<_, _≤_, suc, zero, ℕ}
+use Prim.Native.Nat.{_%_, _*_, _+_, _<_, _≤_, suc, zero, ℕ}
 use Rattle.layout.specs.Judge.{lastSize, lenOk, poolLensOk, poolOk, poolOkAt, rowOk, setupOk}
 use Rattle.layout.specs.Layout.{bytesBefore, rowsBefore, sizeAt, slotsAt}
 use Rattle.layout.specs.Limits.{maxSubpools, storeFree}
 use Rattle.rules.proofs.All.{all-each}
+use Rattle.rules.proofs.Cases.{le-or-lt}
 use Rattle.rules.specs.Tests.{allBelow}
 use borrow.Author.Tests.{eq-eqb, le-leb, leb-true, lt-leb, ne-eqb}
+use lib.ListN.{getD}
 use mathlib.Core.Bool.{Bool, false, or-true, true}
 use mathlib.Core.List.{List}
 use mathlib.Core.Logic.{⊎-elim}
-use mathlib.Core.Path.{_≡_, refl}
+use mathlib.Core.Path.{_∙_, _≡_, ap, ap₂, refl, sym}
 use native.Mathlib.Nat.{eq-or-lt-of-le, le-of-suc-le-suc, mul-le-mul}
 use native.Mathlib.Numerals.{add-one}
 use native.Mathlib.Omega.{arith}
@@ -30,6 +32,17 @@ bytes-none su = refl
 pub bytes-more : (su : Setup) (k : ℕ) → bytesBefore su (k + 1) ≡ bytesBefore su k + slotsAt su k * sizeAt su k
 unfolding bytesBefore
 bytes-more su k = rw add-one
+
+-- the same, of an array that was taken out of the setup
+pub rows-on : (su : Setup) (slots : List ℕ) (k n r : ℕ) → su .slots ≡ slots → n ≡ rowsBefore su k → r ≡ getD slots k 0
+    → n + r ≡ rowsBefore su (k + 1)
+rows-on su slots k n r e p q = ap₂ _+_ p (q ∙ ap (λ (l : List ℕ). getD l k 0) (sym e)) ∙ sym (rows-more su k)
+
+pub bytes-on : (su : Setup) (slots sizes : List ℕ) (k n r z : ℕ) → su .slots ≡ slots → su .sizes ≡ sizes → n ≡ bytesBefore su k
+    → r ≡ getD slots k 0 → z ≡ getD sizes k 0 → n + r * z ≡ bytesBefore su (k + 1)
+bytes-on su slots sizes k n r z e f p q s =
+    ap₂ _+_ p (ap₂ _*_ (q ∙ ap (λ (l : List ℕ). getD l k 0) (sym e)) (s ∙ ap (λ (l : List ℕ). getD l k 0) (sym f)))
+    ∙ sym (bytes-more su k)
 
 -- the product of two numbers of 16 bits
 pub product : (a b : ℕ) → a < 65536 → b < 65536 → a * b ≤ 4294836225
@@ -67,6 +80,14 @@ len-free size n p = simp (eq-eqb n storeFree p)
 
 pub len-small : (size n : ℕ) → n ≤ size → lenOk size n ≡ true
 len-small size n p = simp (le-leb n size p, or-true)
+
+-- the same, where one more than the length, x, is compared
+pub over-bad : (size n x : ℕ) → n < 65536 → size < storeFree → x ≡ (n + 1) % 65536 → size + 1 < x → lenOk size n ≡ false
+over-bad size n x l s e h = len-bad size n (λ (q : n ≡ storeFree). omega arith) (omega arith)
+
+pub over-fine : (size n x : ℕ) → n < 65536 → size < storeFree → x ≡ (n + 1) % 65536 → x ≤ size + 1 → lenOk size n ≡ true
+over-fine size n x l s e h =
+    ⊎-elim (λ (q : storeFree ≤ n). len-free size n (omega arith)) (λ (q : n < storeFree). len-small size n (omega arith)) (le-or-lt storeFree n)
 
 -- what a test on copies of a subpool's numbers says of the subpool
 pub pool-test : (su : Setup) (k last size slots : ℕ) (r b : Bool) → last ≡ lastSize su k → size ≡ sizeAt su k → slots ≡ slotsAt su k

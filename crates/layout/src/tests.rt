@@ -4,12 +4,11 @@ ghost use mathlib.Core.Bool.{false, true};
 ghost use Prim.Native.Nat.{_+_, _<_, _≤_};
 ghost use lib.ListN.{length};
 ghost use Rattle.rules.specs.Tests.{allBelow};
-ghost use Rattle.layout.specs.Limits.{maxSubpools};
+ghost use Rattle.layout.specs.Limits.{maxSubpools, storeFree};
 ghost use Rattle.rules.specs.Inside.{OneIfWrong};
 ghost use Rattle.layout.specs.Judge.{lenOk, poolOk, poolOkAt, rowOk};
 use crate::MAX_SLOT_SIZE;
 use crate::MAX_SLOTS;
-use crate::STORE_FREE;
 use crate::Setup;
 
 fn pool_ok(last: usize, size: usize, slots: usize) -> bool
@@ -48,7 +47,7 @@ pub fn pools_ok(setup: Setup) -> bool
 
 // Each of the lengths of one subpool is free or within its slot. Faults are counted in 16 bits and nothing is left early, so that it is vectorised.
 pub fn pool_lens_ok(lens: &[u16], base: usize, count: usize, size: u16) -> bool
-    requires { ⌜ (base + count ≤ length (now lens)) × (count < 65536) ⌝ }
+    requires { ⌜ (base + count ≤ length (now lens)) × (count < 65536) × (size < storeFree) ⌝ }
     ensures { λ r. ⌜ r ≡ allBelow (rowOk (now (lens .entry)) base size) count ⌝ }
 {
     let mut faults: u16 = 0;
@@ -60,15 +59,14 @@ pub fn pool_lens_ok(lens: &[u16], base: usize, count: usize, size: u16) -> bool
     faults == 0
 }
 
-// 1 where a length is neither free nor within its slot.
+// 1 where a length is neither free nor within its slot. One more than the mark of a free slot is 0, so that one comparison tells.
 fn over(w: u16, size: u16) -> u16
+    requires { ⌜ size < storeFree ⌝ }
     ensures { λ r. ⌜ OneIfWrong (lenOk size w ≡ true) (lenOk size w ≡ false) r ⌝ }
 {
-    if w == STORE_FREE {
-        return 0;
+    if std::num::wrapping_add_u16(w, 1) > size + 1 {
+        1
+    } else {
+        0
     }
-    if size < w {
-        return 1;
-    }
-    0
 }

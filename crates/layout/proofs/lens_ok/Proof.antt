@@ -1,5 +1,6 @@
 -- `layout::lens_ok` meets its contract.
 use Prim.Native.Nat.{_-_, _<_, _≤_, ℕ}
+use Rattle.layout.proofs.Bounds.{setup-pool}
 use Rattle.layout.proofs.Layouts.{rows-more, rows-none, rows-test, rows-within, setup-few}
 use Rattle.layout.specs.Judge.{lensOk, poolLensOk}
 use Rattle.layout.specs.Layout.{rowsBefore}
@@ -24,14 +25,13 @@ loop-holds : tie.Need-loop-holds Inv-loop μ-loop
 loop-holds c = (setup-few _ (c .before .pre .0), omega arith, sym (rows-none _), below-none _)
 
 pool-lens-ok-requires : tie.Need-pool-lens-ok-requires Inv-loop μ-loop
-pool-lens-ok-requires c κs = (
-  omega (
-    arith,
-    rows-within (c .before .before .before .before .before .args .setup) (c .before .before .before .loop .k)
-        (c .before .before .before .before .before .args .setup .pools) (search needs),
-  ),
-  c .before .slots-at .ensures .1,
-)
+pool-lens-ok-requires c κs =
+    let l = c .before .before .before in
+    let s = l .before .before in (
+      omega (arith, rows-within (s .args .setup) (l .loop .k) (s .args .setup .pools) (search needs)),
+      c .before .slots-at .ensures .1,
+      omega (arith, c .slot-size .ensures, setup-pool (s .args .setup) (s .pre .0) (l .loop .k) (search needs) .1),
+    )
 
 returns : tie.Need-returns Inv-loop μ-loop
 unfolding lensOk
