@@ -41,7 +41,7 @@ use mathlib.Core.List.{List, [], _++_}
 use mathlib.Core.Path.{_∙_, _≡_, ap, refl, subst}
 use native.Mathlib.Omega.{arith}
 
-padded-long : (vs : List ℕ) → length (padded vs) ≡ answerWords
+pub padded-long : (vs : List ℕ) → length (padded vs) ≡ answerWords
 unfolding padded
 padded-long vs = simp (length-take, length-append, length-replicate) (omega arith)
 
