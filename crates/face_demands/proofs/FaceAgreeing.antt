@@ -1,7 +1,7 @@
 -- The promises of the C face determine the number, the answer's words, the buffer and all that is lent, of one call and of any number of calls.
 use Prim.Native.Nat.{ℕ}
 use Rattle.face.proofs.Once.{one-answer, one-buffer, one-record, one-schedule, one-store, one-tick}
-use Rattle.face_demands.proofs.FaceParts.{same-answer, same-lent}
+use Rattle.face_demands.proofs.FaceSame.{same-answer, same-lent}
 use Rattle.face_demands.specs.FaceCalling.{Asked, FaceAnswer, FaceCalls, FaceLent, FaceLooks, FaceParts, FacePromised, FaceReads, FaceRecords, FaceRequest, FaceRuns, FaceSchedules, FaceStores, FaceTicks, callerWrites, count, deleteById, deleteByIdKeep, deleteWindow, disable, enable, fresh, insertStored, insertUnwrapped, insertWrapped, request, reset, setClock, storeAdd, storeDelete, storeHas, storeLen, storeModify, storePart, storeRead, tick, window}
 use Rattle.face_demands.specs.FaceDemands.{FaceRunsAgree, OneFaceOutcome}
 use Rattle.record.specs.declared.Record.{Record}

@@ -7,7 +7,7 @@ use Rattle.face.specs.RecordFace.{longEnough, recordCall}
 use Rattle.face.specs.ScheduleFace.{judgedCall, scheduleCall}
 use Rattle.face.specs.StoreFace.{partIn, storeCall}
 use Rattle.face_demands.proofs.FaceParting.{part-keeps}
-use Rattle.face_demands.proofs.FaceParts.{same-lent}
+use Rattle.face_demands.proofs.FaceSame.{same-lent}
 use Rattle.face_demands.specs.FaceCalling.{FaceAnswer, FaceCalls, FaceLent, FaceLooks, FaceParts, FacePromised, FaceReads, FaceRecords, FaceRequest, FaceSchedules, FaceStores, FaceTicks, count, deleteById, deleteByIdKeep, deleteWindow, disable, enable, fresh, insertStored, insertUnwrapped, insertWrapped, request, reset, setClock, storeAdd, storeDelete, storeHas, storeLen, storeModify, storePart, storeRead, tick, window}
 use Rattle.face_demands.specs.FaceDemands.{EveryFaceCallAnswers, FaceAnswered}
 use Rattle.face_demands.specs.FaceStanding.{callOf, requestOf}
@@ -41,7 +41,7 @@ use mathlib.Core.List.{List, [], _++_}
 use mathlib.Core.Path.{_∙_, _≡_, ap, refl, subst}
 use native.Mathlib.Omega.{arith}
 
-padded-long : (vs : List ℕ) → length (padded vs) ≡ answerWords
+pub padded-long : (vs : List ℕ) → length (padded vs) ≡ answerWords
 unfolding padded
 padded-long vs = simp (length-take, length-append, length-replicate) (omega arith)
 

@@ -8,9 +8,10 @@ use Rattle.face.specs.RecordFace.{longEnough}
 use Rattle.face.specs.ScheduleFace.{allWritten}
 use Rattle.face_demands.proofs.FaceFollowing.{left-long, words-stand}
 use Rattle.face_demands.proofs.FaceKeepable.{face-runs-exist}
-use Rattle.face_demands.specs.FaceCalling.{Asked, FaceAnswer, FaceBegins, FaceLent, FacePromised, ofStart}
-use Rattle.face_demands.specs.FaceDemands.{AllAlike, AllRoomy, FaceAlike, FaceAnswersAlike, FaceNeverDamaged, FaceRoomChangesNoAnswer, FaceRunsExist, FaceSameAsTheModel, NoneBad, WordsStand, asAnswers, behindOffset}
-use Rattle.face_demands.specs.FaceStanding.{ahead, allTold, partAt, requestOf, requestsOf, standsFor, toldOf}
+use Rattle.face_demands.proofs.FaceKeeping.{padded-long}
+use Rattle.face_demands.specs.FaceCalling.{Asked, FaceAnswer, FaceBegins, FaceLent, FacePromised, FaceRequest, ofStart}
+use Rattle.face_demands.specs.FaceDemands.{AllAlike, FaceAlike, FaceAnswersAlike, FaceNeverDamaged, FaceRoomChangesNoAnswer, FaceRunsExist, FaceSameAsTheModel, NoneBad, WordsStand, asAnswers, behindOffset}
+use Rattle.face_demands.specs.FaceStanding.{ahead, allTold, asks, made, partAt, requestOf, requestsOf, standsFor, toldOf, valuesOf}
 use Rattle.face_laws.proofs.FaceCalls.{start-face}
 use Rattle.face_laws.proofs.Kept.{and-first}
 use Rattle.face_laws.proofs.Wording.{uncounted-refused}
@@ -28,7 +29,8 @@ use Rattle.time.specs.declared.Margin.{Margin}
 use Rattle.time.specs.declared.UnixTime.{UnixTime}
 use borrow.Author.Tests.{le-leb}
 use lib.Dec.{eqb}
-use lib.ListN.{drop, length}
+use lib.ListN.{drop, length, take}
+use lib.Seq.{take-append-seam}
 use mathlib.Core.Bool.{Bool, _&&_, cond, false, true}
 use mathlib.Core.List.{List, [], _++_, _∷_}
 use mathlib.Core.Logic.{_⊎_, inl, inr}
@@ -108,68 +110,83 @@ face-never-damaged sw clock margin before fresh qs given end b a o r =
     subst NoneBad (sym (w .told)) (told-undamaged sw qs (w .answers) n)
 
 -- what is struck of calls, and of their numbers, words and buffers
-roomy-one : (b : Bool) (q : Asked) (qs : List Asked) → roomy (q .answer) ≡ true → AllRoomy qs → AllRoomy (cond b qs (q ∷ qs))
-roomy-one true q qs h k = k
-roomy-one false q qs h k = (h, k)
+padded-front : (vs ws : List ℕ) → take answerWords (padded vs ++ ws) ≡ padded vs
+padded-front vs ws = subst (λ n. take n (padded vs ++ ws) ≡ padded vs) (padded-long vs) (take-append-seam (padded vs) ws)
 
-struck-roomy : (given : List Answer) (qs : List Asked) → AllRoomy qs → AllRoomy (strike given qs)
-unfolding strike
-struck-roomy [] qs a = tt
-struck-roomy (x ∷ xs) [] a = tt
-struck-roomy (x ∷ xs) (q ∷ qs) a = roomy-one (struck (x .paper)) q (strike xs qs) (a .0) (struck-roomy xs qs (a .1))
+none-asked : {A : Type 0} (r : FaceRequest) (rs : List FaceRequest) → [] ≡ r ∷ rs → A
+none-asked r rs e = let z : _≡_ {A = ℕ} 0 1 = cc in absurd (omega arith)
+
+no-more : (p : Asked) (ps : List Asked) {A : Type 0} → asks (p ∷ ps) ≡ [] → A
+no-more p ps e = let z : _≡_ {A = ℕ} 0 1 = cc in absurd (omega arith)
+
+first-asked : (p r : FaceRequest) (ps rs : List FaceRequest) → p ∷ ps ≡ r ∷ rs → (p ≡ r) × (ps ≡ rs)
+first-asked p r ps rs e = (cc, cc)
 
 module _ (sw : List ℕ) where
   abbrev numbers : List Asked → List Answer → List Answer
   numbers qs xs = asAnswers (allTold sw qs xs)
 
-  requests-one : (b : Bool) (q : Asked) (qs : List Asked) (rs : List Request) → requestsOf qs ≡ rs
-      → requestsOf (cond b qs (q ∷ qs)) ≡ cond b rs (requestOf (q .request) ∷ rs)
+  requests-one : (b : Bool) (q : FaceRequest) (qs : List FaceRequest) (rs : List Request) → made qs ≡ rs
+      → made (cond b qs (q ∷ qs)) ≡ cond b rs (requestOf q ∷ rs)
   requests-one true q qs rs e = e
-  requests-one false q qs rs e = ap (λ (ss : List Request). requestOf (q .request) ∷ ss) e
+  requests-one false q qs rs e = ap (λ (ss : List Request). requestOf q ∷ ss) e
 
-  struck-requests : (qs : List Asked) (xs : List Answer) → requestsOf (strike (numbers qs xs) qs) ≡ strike xs (requestsOf qs)
+  struck-requests : (qs : List Asked) (xs : List Answer) → made (strike (numbers qs xs) (asks qs)) ≡ strike xs (requestsOf qs)
   unfolding strike struck
   struck-requests [] [] = refl
   struck-requests [] (x ∷ xs) = refl
   struck-requests (q ∷ qs) [] = refl
   struck-requests (q ∷ qs) (x ∷ xs) =
-      requests-one (struck (x .paper)) q (strike (numbers qs xs) qs) (strike xs (requestsOf qs)) (struck-requests qs xs)
+      requests-one (struck (x .paper)) (q .request) (strike (numbers qs xs) (asks qs)) (strike xs (requestsOf qs)) (struck-requests qs xs)
 
   module _ (lw : List ℕ) where
-    abbrev words : List ℕ → List ℕ → StoreSetup → Bool → Option ℕ → List ℕ
-    words vs an su b m = padded (unless b vs (ahead su m vs)) ++ drop answerWords an
+    abbrev words : List ℕ → StoreSetup → Bool → Option ℕ → List ℕ
+    words vs su b m = padded (unless b vs (ahead su m vs))
 
-    words-alike : (vs an : List ℕ) (b : Bool) (m : Option ℕ)
-        → unless b (words vs an (storeSetup lw) b m) (behindOffset m (words vs an (storeSetup lw) b m))
-        ≡ unless b (words vs an (storeSetup sw) b m) (behindOffset m (words vs an (storeSetup sw) b m))
+    -- the offset is the one word that tells the setups apart
+    words-alike : (vs : List ℕ) (b : Bool) (m : Option ℕ)
+        → unless b (words vs (storeSetup lw) b m) (behindOffset m (words vs (storeSetup lw) b m))
+        ≡ unless b (words vs (storeSetup sw) b m) (behindOffset m (words vs (storeSetup sw) b m))
     unfolding unless ahead padded
-    words-alike vs an true none = refl
-    words-alike vs an true (some a) = refl
-    words-alike vs an false m = refl
+    words-alike vs true none = refl
+    words-alike vs true (some a) = refl
+    words-alike vs false m = refl
 
-    told-alike : (q : Asked) (x : Answer) → FaceAlike q (toldOf sw q x) (toldOf lw q x)
-    told-alike q x =
+    told-alike : (q p : Asked) (x : Answer) → p .request ≡ q .request → FaceAlike (q .request) (toldOf sw q x) (toldOf lw p x)
+    told-alike q p x e =
         record {
           number = refl;
-          words = words-alike (x .paper .values) (q .answer) (eqb (x .paper .number) 0) (partAt (q .request));
+          words =
+              rw (
+                e,
+                padded-front (valuesOf (storeSetup lw) (q .request) (x .paper)) (drop answerWords (p .answer)),
+                padded-front (valuesOf (storeSetup sw) (q .request) (x .paper)) (drop answerWords (q .answer)),
+              )
+              (words-alike (x .paper .values) (eqb (x .paper .number) 0) (partAt (q .request)));
           buffer = refl;
         }
 
-    alike-one : (b : Bool) (q : Asked) (x : Answer) (qs : List Asked) (given : List FaceAnswer) (xs : List Answer)
-        → AllAlike qs given (allTold lw qs xs)
-        → AllAlike (cond b qs (q ∷ qs)) (cond b given (toldOf sw q x ∷ given)) (allTold lw (cond b qs (q ∷ qs)) (cond b xs (x ∷ xs)))
-    alike-one true q x qs given xs h = h
-    alike-one false q x qs given xs h = (told-alike q x, h)
+    alike-one : (b : Bool) (q : Asked) (x : Answer) (rs : List FaceRequest) (given : List FaceAnswer) (ys : List Answer)
+        → ((ps : List Asked) → asks ps ≡ rs → AllAlike rs given (allTold lw ps ys)) → (ps : List Asked)
+        → asks ps ≡ cond b rs (q .request ∷ rs)
+        → AllAlike (cond b rs (q .request ∷ rs)) (cond b given (toldOf sw q x ∷ given)) (allTold lw ps (cond b ys (x ∷ ys)))
+    alike-one true q x rs given ys h ps e = h ps e
+    alike-one false q x rs given ys h [] e = none-asked (q .request) rs e
+    alike-one false q x rs given ys h (p ∷ ps) e =
+        let f = first-asked (p .request) (q .request) (asks ps) rs e in (told-alike q p x (f .0), h ps (f .1))
 
-    struck-alike : (qs : List Asked) (xs : List Answer)
-        → AllAlike (strike (numbers qs xs) qs) (strike (numbers qs xs) (allTold sw qs xs)) (allTold lw (strike (numbers qs xs) qs) (strike xs xs))
+    struck-alike : (qs : List Asked) (xs : List Answer) (ps : List Asked) → asks ps ≡ strike (numbers qs xs) (asks qs)
+        → AllAlike (strike (numbers qs xs) (asks qs)) (strike (numbers qs xs) (allTold sw qs xs)) (allTold lw ps (strike xs xs))
     unfolding strike struck
-    struck-alike [] [] = tt
-    struck-alike [] (x ∷ xs) = tt
-    struck-alike (q ∷ qs) [] = tt
-    struck-alike (q ∷ qs) (x ∷ xs) =
-        alike-one (struck (x .paper)) q x (strike (numbers qs xs) qs) (strike (numbers qs xs) (allTold sw qs xs)) (strike xs xs)
-        (struck-alike qs xs)
+    struck-alike [] [] [] e = tt
+    struck-alike [] [] (p ∷ ps) e = no-more p ps e
+    struck-alike [] (x ∷ xs) [] e = tt
+    struck-alike [] (x ∷ xs) (p ∷ ps) e = no-more p ps e
+    struck-alike (q ∷ qs) [] [] e = tt
+    struck-alike (q ∷ qs) [] (p ∷ ps) e = no-more p ps e
+    struck-alike (q ∷ qs) (x ∷ xs) ps e =
+        alike-one (struck (x .paper)) q x (strike (numbers qs xs) (asks qs)) (strike (numbers qs xs) (allTold sw qs xs)) (strike xs xs)
+        (λ ps e. struck-alike qs xs ps e) ps e
 
 pub face-room-changes-no-answer : (larger : Bool) → FaceRoomChangesNoAnswer false larger
 unfolding FaceRoomChangesNoAnswer RoomChangesNoAnswer FaceRunsExist WordsStand
@@ -180,17 +197,17 @@ face-room-changes-no-answer larger sw lw clock margin qs before fresh end before
     room-changes-no-answer larger (setupFrom sw) (setupFrom lw) clock margin (requestsOf qs) (standsFor before) (standsFor fresh)
     (standsFor end) (standsFor before′) (standsFor fresh′) xs m off named o (begun sw clock margin before fresh b) (w .runs)
     (begun lw clock margin before′ fresh′ b′) in
-    subst (λ (g : List FaceAnswer). FaceAnswersAlike lw (strike (asAnswers g) qs) fresh′ (strike (asAnswers g) g)) (sym (w .told))
+    subst (λ (g : List FaceAnswer). FaceAnswersAlike lw (strike (asAnswers g) (asks qs)) fresh′ (strike (asAnswers g) g)) (sym (w .told))
     (record {
-      some-run = face-runs-exist lw (strike (numbers sw qs xs) qs) fresh′;
-      always = λ ys u h.
+      some-run = λ ps e. face-runs-exist lw ps fresh′;
+      always = λ ps ys u e c h.
           let v =
-          words-stand lw (strike (numbers sw qs xs) qs) fresh′ ys u (begun-counted lw clock margin before′ fresh′ b′ .setup)
-          (begun-long lw clock margin before′ fresh′ b′) (struck-roomy (numbers sw qs xs) qs a) h in
-          let e =
+          words-stand lw ps fresh′ ys u (begun-counted lw clock margin before′ fresh′ b′ .setup)
+          (begun-long lw clock margin before′ fresh′ b′) c h in
+          let f =
           k .always (v .answers) (standsFor u)
-          (subst (λ (rs : List Request). Runs (setupFrom lw) rs (standsFor fresh′) (v .answers) (standsFor u)) (struck-requests sw qs xs)
-          (v .runs)) in
-          subst (λ (g : List FaceAnswer). AllAlike (strike (numbers sw qs xs) qs) (strike (numbers sw qs xs) (allTold sw qs xs)) g)
-          (sym (v .told ∙ ap (allTold lw (strike (numbers sw qs xs) qs)) e)) (struck-alike sw lw qs xs);
+          (subst (λ (rs : List Request). Runs (setupFrom lw) rs (standsFor fresh′) (v .answers) (standsFor u))
+          (ap made e ∙ struck-requests sw qs xs) (v .runs)) in
+          subst (λ (g : List FaceAnswer). AllAlike (strike (numbers sw qs xs) (asks qs)) (strike (numbers sw qs xs) (allTold sw qs xs)) g)
+          (sym (v .told ∙ ap (allTold lw ps) f)) (struck-alike sw lw qs xs ps e);
     })

@@ -6,7 +6,7 @@ use Rattle.demands.specs.Following.{stands}
 use Rattle.face.specs.Face.{roomy}
 use Rattle.face.specs.RecordFace.{longEnough}
 use Rattle.face_demands.specs.FaceCalling.{Asked, FaceAnswer, FaceBegins, FaceCall, FaceLent, FacePromised, FaceRequest, FaceRuns}
-use Rattle.face_demands.specs.FaceStanding.{allTold, callOf, partAt, requestsOf, standsFor}
+use Rattle.face_demands.specs.FaceStanding.{allTold, asks, callOf, partAt, requestsOf, standsFor}
 use Rattle.face_reading.specs.Reading.{setupFrom, wellCounted}
 use Rattle.face_words.specs.Padding.{answerWords}
 use Rattle.room.specs.Room.{EveryNamed, Roomier, Spills, strike}
@@ -20,7 +20,7 @@ use Rattle.time.specs.Time.{inRange, marginInRange}
 use Rattle.time.specs.declared.Margin.{Margin}
 use Rattle.time.specs.declared.UnixTime.{UnixTime}
 use lib.Dec.{eqb}
-use lib.ListN.{drop, length}
+use lib.ListN.{drop, length, take}
 use mathlib.Core.Bool.{Bool, true}
 use mathlib.Core.List.{List, [], _∷_}
 use mathlib.Core.Option.{Option, none, some}
@@ -136,9 +136,9 @@ FaceNeverDamaged =
     NoneBad given
 
 -- Demand 3: two setups' words, the second with at least the room of the first and alike in all else, each with a fresh start over its own
--- memory. The first is given any calls whose addresses name slots of it; the second can be given those whose number was neither 12 nor 14, and
--- it answers them as the first did: number, answer's words and buffer. But of `part` that returned 0 the first word, the offset, is a place in
--- the caller's own store, and is not compared
+-- memory. The first is given any calls whose addresses name slots of it; the second can be given those whose number was neither 12 nor 14, each
+-- with an answer of 8 words at least, its own or the same, and it answers them as the first did: number, the 8 words and buffer. But of `part`
+-- that returned 0 the first word, the offset, is a place in the caller's own store, and is not compared
 abbrev pub asAnswers : List FaceAnswer → List Answer
 asAnswers [] = []
 asAnswers (x ∷ xs) = record { paper = no (x .number) (x .words); buffer = x .buffer } ∷ asAnswers xs
@@ -148,14 +148,14 @@ behindOffset none ws = ws
 behindOffset (some a) ws = drop 1 ws
 
 abbrev pub compared : FaceRequest → FaceAnswer → List ℕ
-compared q x = unless (eqb (x .number) 0) (x .words) (behindOffset (partAt q) (x .words))
+compared q x = unless (eqb (x .number) 0) (take answerWords (x .words)) (behindOffset (partAt q) (take answerWords (x .words)))
 
-pub record FaceAlike (q : Asked) (x y : FaceAnswer) : Type 0 where
+pub record FaceAlike (q : FaceRequest) (x y : FaceAnswer) : Type 0 where
   pub number : y .number ≡ x .number
-  pub words : compared (q .request) y ≡ compared (q .request) x
+  pub words : compared q y ≡ compared q x
   pub buffer : y .buffer ≡ x .buffer
 
-abbrev pub AllAlike : List Asked → List FaceAnswer → List FaceAnswer → Type 0
+abbrev pub AllAlike : List FaceRequest → List FaceAnswer → List FaceAnswer → Type 0
 AllAlike [] [] [] = Unit {0}
 AllAlike [] [] (y ∷ ys) = ⊥
 AllAlike [] (x ∷ xs) ys = ⊥
@@ -163,9 +163,10 @@ AllAlike (q ∷ qs) [] ys = ⊥
 AllAlike (q ∷ qs) (x ∷ xs) [] = ⊥
 AllAlike (q ∷ qs) (x ∷ xs) (y ∷ ys) = FaceAlike q x y × AllAlike qs xs ys
 
-pub record FaceAnswersAlike (sw : List ℕ) (qs : List Asked) (t : FaceLent) (xs : List FaceAnswer) : Type 0 where
-  pub some-run : FaceRunsTo sw qs t
-  pub always : (ys : List FaceAnswer) (u : FaceLent) → FaceRuns sw qs t ys u → AllAlike qs xs ys
+pub record FaceAnswersAlike (sw : List ℕ) (rs : List FaceRequest) (t : FaceLent) (xs : List FaceAnswer) : Type 0 where
+  pub some-run : (qs : List Asked) → asks qs ≡ rs → FaceRunsTo sw qs t
+  pub always : (qs : List Asked) (ys : List FaceAnswer) (u : FaceLent) → asks qs ≡ rs → AllRoomy qs → FaceRuns sw qs t ys u →
+      AllAlike rs xs ys
 
 unfoldable pub FaceRoomChangesNoAnswer : Bool → Bool → Type 0
 FaceRoomChangesNoAnswer smaller larger =
@@ -179,4 +180,4 @@ FaceRoomChangesNoAnswer smaller larger =
     FaceBegins sw clock margin before fresh →
     FaceRuns sw qs fresh given end →
     FaceBegins lw clock margin before′ fresh′ →
-    FaceAnswersAlike lw (strike (asAnswers given) qs) fresh′ (strike (asAnswers given) given)
+    FaceAnswersAlike lw (strike (asAnswers given) (asks qs)) fresh′ (strike (asAnswers given) given)

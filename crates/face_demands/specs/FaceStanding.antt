@@ -44,9 +44,17 @@ unfoldable pub callOf : FaceCall → Call
 callOf (fresh clock margin) = freshStart clock margin
 callOf (request q) = D.request (requestOf q)
 
+-- what is asked by calls, whatever answers are lent with them; and the requests that are made so
+abbrev pub asks : List Asked → List FaceRequest
+asks [] = []
+asks (q ∷ qs) = q .request ∷ asks qs
+
+abbrev pub made : List FaceRequest → List Request
+made [] = []
+made (q ∷ qs) = requestOf q ∷ made qs
+
 abbrev pub requestsOf : List Asked → List Request
-requestsOf [] = []
-requestsOf (q ∷ qs) = requestOf (q .request) ∷ requestsOf qs
+requestsOf qs = made (asks qs)
 
 abbrev pub standsFor : FaceLent → Lent
 standsFor t = standing (t .rec) (t .store) (t .lens) (t .rows)

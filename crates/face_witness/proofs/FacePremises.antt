@@ -5,9 +5,9 @@ use Rattle.face.specs.Face.{answered, answering}
 use Rattle.face.specs.ScheduleFace.{scheduleCall}
 use Rattle.face_demands.proofs.FaceKeepable.{face-runs-exist}
 use Rattle.face_demands.proofs.FaceSequences.{face-room-changes-no-answer, face-same-as-the-model}
-use Rattle.face_demands.specs.FaceCalling.{Asked, FaceAnswer, FaceBegins, FacePromised, FaceRuns}
+use Rattle.face_demands.specs.FaceCalling.{FaceAnswer, FaceBegins, FacePromised, FaceRequest, FaceRuns}
 use Rattle.face_demands.specs.FaceDemands.{AllRoomy, FaceAnswersAlike, FaceRoomChangesNoAnswer, FaceRunsExist, FaceRunsTo, FaceSameAsTheModel, asAnswers}
-use Rattle.face_demands.specs.FaceStanding.{ahead, allTold, partAt, requestOf, requestsOf}
+use Rattle.face_demands.specs.FaceStanding.{ahead, allTold, asks, partAt, requestOf, requestsOf}
 use Rattle.face_reading.specs.Reading.{column, setupFrom, switched, wellCounted}
 use Rattle.face_witness.specs.FaceGiven.{answers, before, before′, calls, fresh, fresh′, kept, keptAnswers, large, none, secs, small}
 use Rattle.face_witness.specs.FaceWitness.{FaceAlikeThere, FaceMet}
@@ -140,7 +140,7 @@ face-met =
       begins-larger = begins-larger;
     }
 
-calls-left : strike (asAnswers answers) calls ≡ kept
+calls-left : strike (asAnswers answers) (asks calls) ≡ asks kept
 unfolding strike struck
 calls-left = refl
 
@@ -182,8 +182,8 @@ face-alike =
       calls-left = calls-left;
       answers-left = answers-left;
       alike =
-          subst (λ (qs : List Asked). FaceAnswersAlike large qs fresh′ (keptAnswers 4)) calls-left
-          (subst (λ (xs : List FaceAnswer). FaceAnswersAlike large (strike (asAnswers answers) calls) fresh′ xs) answers-left
+          subst (λ (rs : List FaceRequest). FaceAnswersAlike large rs fresh′ (keptAnswers 4)) calls-left
+          (subst (λ (xs : List FaceAnswer). FaceAnswersAlike large (strike (asAnswers answers) (asks calls)) fresh′ xs) answers-left
           (face-room-changes-no-answer false small large (secs 0) none calls before fresh (a-run .end) before′ fresh′ answers roomier spills named
           all-roomy bytes begins runs begins-larger));
       end = larger-run .end;

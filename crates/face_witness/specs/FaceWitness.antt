@@ -1,7 +1,7 @@
 -- The premises of the demands over sequences of C calls, all met by the words and calls of `FaceGiven`, and what demand 3 says there.
 use Rattle.face_demands.specs.FaceCalling.{FaceBegins, FaceLent, FaceRuns}
 use Rattle.face_demands.specs.FaceDemands.{AllRoomy, FaceAnswersAlike, asAnswers}
-use Rattle.face_demands.specs.FaceStanding.{requestsOf}
+use Rattle.face_demands.specs.FaceStanding.{asks, requestsOf}
 use Rattle.face_reading.specs.Reading.{setupFrom}
 use Rattle.face_witness.specs.FaceGiven.{answers, before, before′, calls, fresh, fresh′, kept, keptAnswers, large, none, secs, small}
 use Rattle.room.specs.Room.{EveryNamed, Roomier, Spills, strike}
@@ -22,8 +22,8 @@ pub record FaceMet : Type 0 where
 
 -- the larger answers alike; and what it does answer has another offset
 pub record FaceAlikeThere : Type 0 where
-  pub calls-left : strike (asAnswers answers) calls ≡ kept
+  pub calls-left : strike (asAnswers answers) (asks calls) ≡ asks kept
   pub answers-left : strike (asAnswers answers) answers ≡ keptAnswers 4
-  pub alike : FaceAnswersAlike large kept fresh′ (keptAnswers 4)
+  pub alike : FaceAnswersAlike large (asks kept) fresh′ (keptAnswers 4)
   pub end : FaceLent
   pub runs : FaceRuns large kept fresh′ (keptAnswers 8) end
