@@ -36,7 +36,7 @@ use Rattle.table.specs.Before.{below}
 use Rattle.table_edit.specs.Edits.{insertSorted}
 use Rattle.tick.specs.Tick.{firstLacks, handedOut, tickIn}
 use Rattle.turn.specs.Turns.{handout, leave}
-use Rattle.witness.proofs.Bytes.{of-add, of-clock, of-count, of-modify, of-read, of-stored, of-tick}
+use Rattle.witness.proofs.Deciding.{all-of-bytes, every-named}
 use Rattle.words.specs.Words.{bytesOf}
 use lib.ListN.{replicate}
 use mathlib.Core.Bool.{false}
@@ -79,17 +79,11 @@ all-roomy = (refl, (refl, (refl, (refl, (refl, (refl, (refl, (refl, (refl, (refl
 
 named : EveryNamed (setupFrom small) (requestsOf calls)
 unfolding addresses requestOf column each
-named =
-    let at : (0 < 2) × (0 < 1) = (omega arith, omega arith) in
-    let at′ : (1 < 2) × (0 < 1) = (omega arith, omega arith) in
-    (tt, (tt, (tt, ((at′, tt), ((at′, tt), ((at′, tt), ((at, tt), (tt, (tt, (tt, tt))))))))))
+named = every-named (setupFrom small) (requestsOf calls) refl
 
 bytes : AllOfBytes (requestsOf calls)
 unfolding requestOf
-bytes = (
-  of-add _,
-  (of-add _, (of-add _, (of-modify _ _, (of-read _ _, (of-stored _ _ _, (of-stored _ _ _, (of-clock _, (of-tick _ _ _, (of-count, tt))))))))),
-)
+bytes = all-of-bytes (requestsOf calls) refl
 
 more : (k : ℕ) → k < 2 → slotsAt (setupFrom small .store) k ≤ slotsAt (setupFrom large .store) k
 unfolding column each
@@ -155,10 +149,7 @@ larger-run = face-runs-exist large kept fresh′
 
 kept-bytes : AllOfBytes (requestsOf kept)
 unfolding requestOf
-kept-bytes = (
-  of-add _,
-  (of-add _, (of-modify _ _, (of-read _ _, (of-stored _ _ _, (of-clock _, (of-tick _ _ _, (of-count, tt))))))),
-)
+kept-bytes = all-of-bytes (requestsOf kept) refl
 
 larger-as : allTold large kept (run (setupFrom large) (requestsOf kept) (freshState (setupFrom large) (secs 0) none) .answers) ≡ keptAnswers 8
 unfolding addIn after ahead allBelow allOf below bytesBefore bytesOf carried choose clockIn column countIn each editAt enter findAt firstLacks
