@@ -4,7 +4,7 @@ use Rattle.counting.specs.Counting.{countIn}
 use Rattle.gate.specs.Entering.{enter, insertStoredIn, timed}
 use Rattle.insertions.specs.Inserting.{activity, insertUnwrappedIn}
 use Rattle.log.specs.Log.{logBytes, offsets, recordBytes, records, total}
-use Rattle.lookup.specs.Calls.{ifHeld, ifNamed, packetIn}
+use Rattle.lookup.specs.Calls.{ifHeld, ifNamed}
 use Rattle.packet.specs.Packet.{dataOf, readOf}
 use Rattle.packet_tests.specs.Tests.{checkBytes, headerBits, totalInBounds, versionNibble}
 use Rattle.reading.specs.Reading.{readIn}
@@ -15,7 +15,7 @@ use Rattle.rules.specs.Tests.{allBelow, allOf, unless}
 use Rattle.scheduler.specs.Steps.{carried, looked, run, step, ticked}
 use Rattle.slots.specs.Pools.{choose, findAt, over}
 use Rattle.stamp.specs.Stamp.{stampAt, stampOf}
-use Rattle.store.specs.Calls.{addIn, deleteIn, freshPools, place}
+use Rattle.store.specs.Calls.{addIn, deleteIn, freshPools, modifyIn, place}
 use Rattle.store.specs.Edits.{editAt}
 use Rattle.storing.specs.Entered.{entered}
 use Rattle.table.specs.Before.{below}
@@ -47,7 +47,7 @@ pub answered-as : run small requests (freshState small (secs 10) twoSeconds) .an
 unfolding activity addIn after allBelow allOf below bytesOf carried checkBytes checkCode choose clearIn clockIn countIn dataOf deleteByIdIn deleteIn
     deleteKeepingIn deleteWindowIn each editAt endOf endsInRange enter entered feed filter findAt firstLacks firstMatch firstRow forward freed
     freshPools handedOut handout hasIn headerBits ifHeld ifNamed insertSorted insertStoredIn insertUnwrappedIn insertWrappedIn isMatch
-    lastMatch leave lenIn logBytes looked markIn number offsets opened over packetIn place readIn readOf recordBytes records resetIn
+    lastMatch leave lenIn logBytes looked markIn modifyIn number offsets opened over place readIn readOf recordBytes records resetIn
     retrieveIn run says shift stampAt stampOf stamped startOf step sweep swept takeIn through tickIn ticked timed total totalInBounds unless
     versionNibble victim windowOf windowed within without
 answered-as = refl
@@ -56,7 +56,7 @@ pub handed-as : (del : Bool) → run small (ticks 2 del logs) (stands small load
 unfolding activity addIn after allBelow allOf below bytesAt bytesBefore bytesOf carried checkBytes checkCode choose clearIn clockIn countIn dataOf
     deleteByIdIn deleteIn deleteKeepingIn deleteWindowIn each editAt endOf endsInRange enter entered feed filter findAt firstLacks firstMatch
     firstRow forward freed freshPools handedOut handout hasIn headerBits ifHeld ifNamed insertSorted insertStoredIn insertUnwrappedIn
-    insertWrappedIn isMatch lastMatch leave lenAt lenIn logBytes looked markIn marked number offsets opened over packetIn part place readIn
+    insertWrappedIn isMatch lastMatch leave lenAt lenIn logBytes looked markIn marked modifyIn number offsets opened over part place readIn
     readOf recordBytes records resetIn retrieveIn rowsBefore run says shift stampAt stampOf stamped startOf stateOf step sweep swept takeIn
     through tickIn ticked timed total totalInBounds unless unpack versionNibble victim view windowOf windowed within without
 handed-as true = refl
