@@ -11,7 +11,7 @@ use spacepackets::ecss::tc::crc16;
 /// The least of the rounds' medians is taken: what else the machine does can only add to a time.
 const ROUNDS: usize = 15;
 /// Rounds over the places of the stack.
-const PLACE_ROUNDS: usize = 3;
+const PLACE_ROUNDS: usize = 5;
 
 /// Other stores on which judging is measured, with 256 entries: 16 and 2,048 slots.
 const FEW: [(u16, usize); 1] = [(16, 64)];
@@ -93,14 +93,13 @@ fn least(mut cases: Vec<Case>) -> Vec<[f64; 4]> {
 
 fn over_places() -> Vec<[f64; 2]> {
     let each = CALLS.iter().flat_map(|&(call, _)| SIZES.map(|n| (call, n)));
-    each.map(|(call, n)| {
-        let (mut this, mut least) = (This::new(call, n), places::none());
-        for _ in 0..PLACE_ROUNDS {
-            places::round(&mut this, clock::overhead(), &mut least, This::make, This::undo);
+    let mut cases: Vec<_> = each.map(|(call, n)| (This::new(call, n), places::none())).collect();
+    for _ in 0..PLACE_ROUNDS {
+        for (this, least) in &mut cases {
+            places::round(this, clock::overhead(), least, This::make, This::undo);
         }
-        places::ends(&least)
-    })
-    .collect()
+    }
+    cases.iter().map(|(_, least)| places::ends(least)).collect()
 }
 
 pub fn measure() -> Measured {
