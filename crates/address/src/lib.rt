@@ -1,8 +1,10 @@
 // The store address: how subpool and slot are put into one number, and which of its bits are read.
+#![tactic(auto)]
+
 ghost use Rattle.std.specs.Prelude.{◌≡◌, eqb};
 ghost use Rattle.address.specs.Address.{address_of, invalid_addr, pool_of, slot_of};
 
-#[derive(Drop)]
+#[derive(Clone, Copy)]
 pub struct StaticPoolAddr {
     pub pool_idx: u16,
     pub packet_idx: u16,

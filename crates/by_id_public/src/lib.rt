@@ -1,5 +1,7 @@
 // The public calls of the deletions by request ID (document 01, module 5): each judges, refusals 1 to 3 in one pass, and then does what its judged
 // form does.
+#![tactic(auto)]
+
 ghost use Rattle.schedule.specs.Judge.{judging};
 ghost use Rattle.schedule.specs.Promise.{Writes};
 ghost use Rattle.by_id.specs.Answers.{freed_paper, taken_paper};

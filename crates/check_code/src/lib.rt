@@ -1,5 +1,7 @@
 // The check code of a packet (document 01, module 1): CRC-16, polynomial 0x1021, start 0xFFFF, by a table of 256 numbers. Eight bytes at a
 // time are folded into the eight that follow, which leaves eight bytes and a rest for the table.
+#![tactic(auto)]
+
 ghost use Rattle.std.specs.Prelude.{◌≡◌, ◌*◌, ◌-◌, ◌%◌, ◌/◌, ◌<◌, ◌≤◌, ℕ, drop, length};
 ghost use Rattle.std.specs.Int.Bits.{bit_xor};
 ghost use Rattle.check_code.specs.CheckCode.{check_code, feed, feed_all, table_of};

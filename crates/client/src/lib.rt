@@ -1,4 +1,6 @@
 // A crate above the store, which sees its promise alone.
+#![tactic(auto)]
+
 ghost use Rattle.std.specs.Prelude.{◌≡◌, [], ◌∷◌, ◌≤◌};
 ghost use Rattle.layout.specs.Judge.{Sound};
 ghost use Rattle.rules.specs.Papers.{no};
@@ -11,7 +13,7 @@ use layout::Setup;
 use slots::StoreRefusal;
 use store::{Deleted, Verdict};
 
-#[derive(Drop)]
+#[derive(Clone, Copy)]
 pub enum Swept {
     Gone(usize),
     Refused(StoreRefusal),

@@ -1,4 +1,6 @@
 // The count of the entries.
+#![tactic(auto)]
+
 ghost use Rattle.std.specs.Prelude.{◌≡◌};
 ghost use Rattle.rules.specs.Papers.{says};
 ghost use Rattle.schedule.specs.Judge.{judging};
@@ -8,7 +10,7 @@ ghost use Rattle.counting.specs.Counting.{count_in};
 use record::{Record, ScheduleRefusal};
 use schedule::{Setup, Verdict};
 
-#[derive(Drop)]
+#[derive(Clone, Copy)]
 pub enum Counted {
     Count(usize),
     Refused(ScheduleRefusal),

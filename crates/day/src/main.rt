@@ -1,4 +1,6 @@
 // The day of a command: planning desk, uplink, store, its second, dispatch, report. Each line of the input is a request, done and told.
+#![tactic(auto)]
+
 mod requests;
 mod shift;
 

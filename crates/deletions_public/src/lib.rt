@@ -1,5 +1,7 @@
 // The public calls of windows and of the deletions of several entries (document 01, module 5): retrieval and deletion by window, and `reset`.
 // Each judges, refusals 1 to 3 in one pass, and then does what its judged form does.
+#![tactic(auto)]
+
 ghost use Rattle.std.specs.Prelude.{◌≡◌};
 ghost use Rattle.rules.specs.Papers.{says};
 ghost use Rattle.schedule.specs.Judge.{judging};

@@ -1,4 +1,6 @@
 // Digits: the numbers that they write, and a digit written so that it is read back as it was.
+#![tactic(auto)]
+
 mod numbers;
 mod written;
 

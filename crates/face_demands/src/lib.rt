@@ -1,1 +1,2 @@
 // No code: the demands over calls of the C face.
+#![tactic(auto)]

@@ -1,4 +1,6 @@
 // The words that the C face reads: setup, record, a time and a window.
+#![tactic(auto)]
+
 ghost use Rattle.std.specs.Prelude.{◌≡◌, false, true, ◌<◌, ◌≤◌};
 ghost use Rattle.layout.specs.Judge.{setup_ok as store_setup_ok};
 ghost use Rattle.face_reading.specs.Inside.{ReadsSetup, ReadsStore, Stands, clipped, narrow};

@@ -1,4 +1,6 @@
 // The release tick over words: lent words are read, the tick is called, and its answer and the count are written.
+#![tactic(auto)]
+
 ghost use Rattle.face_reading.specs.Reading.{word};
 ghost use Rattle.face.specs.ScheduleFace.{count_written, judged_call};
 ghost use Rattle.face.specs.TickFace.{TickFaces};

@@ -1,1 +1,2 @@
 // No code: the premises of the demands over the C face, met by words that are given.
+#![tactic(auto)]

@@ -1,4 +1,6 @@
 // The words that the C face writes: an answer's number and values, and the record's.
+#![tactic(auto)]
+
 ghost use Rattle.std.specs.Prelude.{◌≡◌, [], ◌∷◌};
 ghost use Rattle.record.specs.Refusals.{word_of};
 ghost use Rattle.rules.specs.Papers.{no};
@@ -8,7 +10,7 @@ pub mod telling;
 mod writing;
 
 // An answer: the number to return, and the answer's first words.
-#[derive(Drop)]
+#[derive(Clone, Copy)]
 pub struct Words {
     pub number: u32,
     pub values: [u64; 8],

@@ -1,4 +1,6 @@
 // Refusals 13 and 14 (document 01, module 5), which every insertion ends with: whether a release is late, and whether the schedule is full.
+#![tactic(auto)]
+
 ghost use Rattle.time.specs.Time.{InRange, MarginInRange};
 ghost use Rattle.gate.specs.Inside.{Gate};
 

@@ -1,4 +1,6 @@
 // The turns of entries that are all handed out: a record each, and in delete mode the packet gone at its turn. For a caller that has judged.
+#![tactic(auto)]
+
 ghost use Rattle.layout.specs.Judge.{Sound as StoreSound};
 ghost use Rattle.slots.specs.View.{view};
 ghost use Rattle.rows.specs.Entries.{unpack};

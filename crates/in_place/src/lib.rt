@@ -1,4 +1,6 @@
 // The three calls that change the caller's record in place, each on a record that the function itself holds and goes on with.
+#![tactic(auto)]
+
 ghost use Rattle.std.specs.Prelude.{false, true};
 ghost use Rattle.record.specs.Record.{Changes, clock_in, mark_in};
 

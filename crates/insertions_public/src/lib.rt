@@ -1,5 +1,7 @@
 // The public calls of the three insertions (document 01, module 5): of a packet that is stored already, by a time and a packet, and by a wrapped
 // packet. Each judges, refusals 1 to 3 in one pass, and then does what its judged form does.
+#![tactic(auto)]
+
 ghost use Rattle.record.specs.Refusals.{done_paper};
 ghost use Rattle.schedule.specs.Judge.{judging};
 ghost use Rattle.schedule.specs.Promise.{Writes};

@@ -1,10 +1,12 @@
 // What the programs of cases lend to a call of the scheduler, damaged by hand and compared with copies.
+#![tactic(auto)]
+
 use record::Record;
 use schedule::Setup;
 use text::{out, same};
 
 // The setup, the record, and how much of the store, the lengths and the rows is lent.
-#[derive(Drop)]
+#[derive(Clone, Copy)]
 pub struct Lent {
     pub setup: Setup,
     pub rec: Record,

@@ -1,4 +1,6 @@
 // Writing the release log: a record at its place, and the numbers before the records. All numbers high byte first.
+#![tactic(auto)]
+
 ghost use Rattle.std.specs.Prelude.{◌≡◌, ◌+◌, ◌≤◌, length};
 ghost use Rattle.std.proofs.lemmas.List.Edits.{sets};
 ghost use Rattle.log.specs.Log.{record_bytes};

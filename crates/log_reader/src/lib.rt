@@ -1,10 +1,12 @@
 // A release log read record by record: how many it counts, and record i, where it lies inside the bytes given.
+#![tactic(auto)]
+
 ghost use Rattle.std.specs.Prelude.{◌≡◌, ◌*◌, ◌+◌, ◌<◌, ◌≤◌, length};
 ghost use Rattle.log.specs.Reading.{count_of, end_of};
 ghost use Rattle.log_reader.specs.Finding.{between as betweenIn, counted, found_in};
 
 // A record: flag, request ID, address as inserted, and where in the log its packet's bytes are.
-#[derive(Drop)]
+#[derive(Clone, Copy)]
 pub struct Item {
     pub flag: u8,
     pub id: u64,
@@ -13,7 +15,7 @@ pub struct Item {
     pub to: usize,
 }
 
-#[derive(Drop)]
+#[derive(Clone, Copy)]
 pub enum Found {
     Record(Item),
     Outside,

@@ -1,4 +1,6 @@
 // A packet looked up, for a caller that has judged: where it lies; and the answers of the calls that look one up.
+#![tactic(auto)]
+
 ghost use Rattle.layout.specs.Judge.{Sound};
 ghost use Rattle.lookup.specs.Promise.{Finds};
 
@@ -6,26 +8,26 @@ use layout::Setup;
 use slots::search::Spot;
 use slots::{StoreRefusal, search};
 
-#[derive(Drop)]
+#[derive(Clone, Copy)]
 pub enum Length {
     Of(usize),
     Refused(StoreRefusal),
 }
 
-#[derive(Drop)]
+#[derive(Clone, Copy)]
 pub enum Presence {
     Is(bool),
     Refused(StoreRefusal),
 }
 
 // The bytes of a packet in the store.
-#[derive(Drop)]
+#[derive(Clone, Copy)]
 pub struct Span {
     pub from: usize,
     pub len: usize,
 }
 
-#[derive(Drop)]
+#[derive(Clone, Copy)]
 pub enum Whereabouts {
     At(Span),
     Refused(StoreRefusal),

@@ -1,5 +1,7 @@
 // Packets marked as handed out, in the length table: a marked one counts as deleted before anything is, and one pass takes all marks off
 // again. Whoever counts what will be handed out uses these functions alone: what a mark is, no other crate knows.
+#![tactic(auto)]
+
 ghost use Rattle.std.specs.Prelude.{◌≡◌, true};
 ghost use Rattle.layout.specs.Judge.{setup_ok};
 ghost use Rattle.marks.specs.Promise.{Deletes, Marking, Place, Places, Restores, Tells};

@@ -1,5 +1,7 @@
 // How many entries of a tick the log holds, found before anything is written. In delete mode a packet handed out is gone for a later entry with
 // the same address: the store marks it (crate `marks`), and takes all marks off again.
+#![tactic(auto)]
+
 ghost use Rattle.std.specs.Prelude.{◌≡◌, ◌≤◌};
 ghost use Rattle.log.specs.Log.{max_log_bytes};
 ghost use Rattle.layout.specs.Judge.{Sound as StoreSound};

@@ -1,4 +1,6 @@
 // How many values an answer of the original has.
+#![tactic(auto)]
+
 ghost use Rattle.std.specs.Prelude.{◌≤◌};
 
 // How many values a refusal carries.

@@ -1,5 +1,7 @@
 // Requests that start a schedule, add to it or set its record, to the proved library: the number that was returned; the answer's words
 // are in what is lent.
+#![tactic(auto)]
+
 use oracle_words::kinds;
 use silotwist::{insert_calls, record_calls, schedule_calls};
 use text::line;

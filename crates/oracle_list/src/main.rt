@@ -1,4 +1,6 @@
 // The original's answers, replayed: each line's request goes to the proved library, and its answer and all that it hands out is compared with theirs.
+#![tactic(auto)]
+
 mod tally;
 
 ghost use Rattle.std.specs.Prelude.{◌≡◌, ◌≤◌, length};

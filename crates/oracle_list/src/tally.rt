@@ -12,7 +12,7 @@ const DIFFERENT: usize = 547;
 pub const CELLS: usize = 548;
 
 // A line's call, the number of its answer, and whether all that was answered is what it has.
-#[derive(Drop)]
+#[derive(Clone, Copy)]
 pub struct Line {
     pub k: usize,
     pub number: u32,

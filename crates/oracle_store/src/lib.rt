@@ -1,5 +1,7 @@
 // The store's requests, to the proved library. Each ask gives the number that was returned; the answer's words, and the bytes handed out,
 // are in what is lent.
+#![tactic(auto)]
+
 use oracle_words::kinds;
 use silotwist::store_calls;
 use text::line;

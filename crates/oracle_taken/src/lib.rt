@@ -1,5 +1,7 @@
 // Windows, deletions and releases, asked of the proved library: the number that was returned; the answer's words, and what is handed out,
 // are in what is lent.
+#![tactic(auto)]
+
 use oracle_words::kinds;
 use silotwist::{delete_calls, schedule_calls, tick_call};
 use text::line;

@@ -5,7 +5,7 @@ use crate::said;
 const FREE: u16 = 65535;
 
 // How far the line, the store and the length table are gone through.
-#[derive(Drop)]
+#[derive(Clone, Copy)]
 struct Place {
     at: usize,
     from: usize,

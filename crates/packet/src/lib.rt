@@ -1,4 +1,6 @@
 // Telecommand packets (document 01, module 2; CCSDS 133.0-B, ECSS-E-ST-70-41C): which bytes are one, its header, and its user data.
+#![tactic(auto)]
+
 ghost use Rattle.std.specs.Prelude.{◌≡◌};
 ghost use Rattle.packet.specs.Packet.{HandsBack, id_of, id_word, read_of};
 ghost use Rattle.packet.specs.declared.Reading.TheVariants.{Packet};
@@ -6,7 +8,7 @@ ghost use Rattle.packet.specs.declared.Reading.TheVariants.{Packet};
 mod fields;
 
 // The header's fields, and the whole packet's length.
-#[derive(Drop)]
+#[derive(Clone, Copy)]
 pub struct Header {
     pub service: u8,
     pub subservice: u8,
@@ -17,7 +19,7 @@ pub struct Header {
 }
 
 // The first of module 2's tests that fails.
-#[derive(Drop)]
+#[derive(Clone, Copy)]
 pub enum Fault {
     Length,
     Total,
@@ -27,14 +29,14 @@ pub enum Fault {
 }
 
 // What bytes are: a packet with its header, or unreadable, and why.
-#[derive(Drop)]
+#[derive(Clone, Copy)]
 pub enum Reading {
     Packet(Header),
     Unreadable(Fault),
 }
 
 // What the schedule names a command by.
-#[derive(Drop)]
+#[derive(Clone, Copy)]
 pub struct RequestId {
     pub source_id: u16,
     pub apid: u16,

@@ -1,4 +1,6 @@
 // Module 2's tests (document 01; CCSDS 133.0-B, ECSS-E-ST-70-41C), one function each: for bytes of which there are at least 13.
+#![tactic(auto)]
+
 ghost use Rattle.std.specs.Prelude.{◌≡◌, true, ◌≤◌, length};
 ghost use Rattle.packet_tests.specs.Tests.{check_bytes, header_bits, total_in_bounds, total_of, version_nibble};
 

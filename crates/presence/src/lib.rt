@@ -1,4 +1,6 @@
 // Whether a packet is there, and how long it is, for a caller that has judged. Nothing changes.
+#![tactic(auto)]
+
 ghost use Rattle.std.specs.Prelude.{◌≡◌};
 ghost use Rattle.rules.specs.Papers.{says};
 ghost use Rattle.layout.specs.Judge.{Sound};

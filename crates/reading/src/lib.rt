@@ -1,4 +1,6 @@
 // A packet's bytes, for a caller that has judged: copied to a buffer, or the place of them to lend. Nothing changes but a read buffer.
+#![tactic(auto)]
+
 ghost use Rattle.std.specs.Prelude.{◌≡◌};
 ghost use Rattle.rules.specs.Papers.{says};
 ghost use Rattle.layout.specs.Judge.{Sound};

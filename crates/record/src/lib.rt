@@ -1,4 +1,6 @@
 // The scheduler's record and what changes it alone: setting the clock, enable, disable. And the schedule's refusals.
+#![tactic(auto)]
+
 ghost use Rattle.std.specs.Prelude.{◌≡◌, false, true};
 ghost use Rattle.rules.specs.Papers.{after, says};
 ghost use Rattle.record.specs.Record.{Changes, clock_in, mark_in, times_in_range};
@@ -8,7 +10,7 @@ use slots::StoreRefusal;
 use time::{Margin, UnixTime};
 
 // What the scheduler keeps beside its tables: the number of entries, the clock, the margin, and whether it is enabled.
-#[derive(Drop)]
+#[derive(Clone, Copy)]
 pub struct Record {
     pub count: usize,
     pub clock: UnixTime,
@@ -17,7 +19,7 @@ pub struct Record {
 }
 
 // Why a schedule call refuses. The store's refusals, 1 to 3 among them, are inside.
-#[derive(Drop)]
+#[derive(Clone, Copy)]
 pub enum ScheduleRefusal {
     Store(StoreRefusal),
     BadTime,
@@ -38,14 +40,14 @@ pub enum ScheduleRefusal {
 }
 
 // The answer of a call that answers no values.
-#[derive(Drop)]
+#[derive(Clone, Copy)]
 pub enum Done {
     Ok,
     Refused(ScheduleRefusal),
 }
 
 // The record after a change, and the change's answer.
-#[derive(Drop)]
+#[derive(Clone, Copy)]
 pub struct Changed {
     pub next: Record,
     pub answer: Done,

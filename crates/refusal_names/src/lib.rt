@@ -1,4 +1,6 @@
 // The refusals' names, by document 01's numbers.
+#![tactic(auto)]
+
 use text::out;
 
 // A refusal's number and name.

@@ -1,4 +1,6 @@
 // The numbers of refusals in document 01's table ("Refusal numbers"), for the programs that put refusals into words.
+#![tactic(auto)]
+
 ghost use Rattle.std.specs.Prelude.{◌≡◌};
 ghost use Rattle.record.specs.Refusals.{paper};
 ghost use Rattle.lookup.specs.Refusals.{bad_paper, paper as store_paper};

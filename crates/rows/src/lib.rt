@@ -1,5 +1,7 @@
 // A row of the schedule's table (document 01, module 5): four words of one lent slice, which say when a command is released, its request
 // ID and where its packet lies.
+#![tactic(auto)]
+
 ghost use Rattle.std.specs.Prelude.{◌≡◌, ◌<◌};
 ghost use Rattle.rows.specs.Entries.{row};
 ghost use Rattle.rows.specs.Order.{Held};
@@ -11,7 +13,7 @@ pub mod judge;
 pub const ROW: usize = 4;
 
 // What an entry says of its packet.
-#[derive(Drop)]
+#[derive(Clone, Copy)]
 pub struct TcInfo {
     pub request_id: u64,
     pub addr: u64,

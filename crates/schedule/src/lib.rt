@@ -1,4 +1,6 @@
 // The schedule as every call sees it: its setup, and refusals 1 to 3 over setup, record, store and rows.
+#![tactic(auto)]
+
 ghost use Rattle.std.specs.Prelude.{◌≡◌};
 ghost use Rattle.schedule.specs.Judge.{Judges};
 ghost use Rattle.schedule.specs.State.{with_count};
@@ -11,13 +13,13 @@ mod tests;
 pub use tests::{buffers_ok, setup_ok};
 
 // The store's setup, and the number of entries.
-#[derive(Drop)]
+#[derive(Clone, Copy)]
 pub struct Setup {
     pub store: layout::Setup,
     pub entries: usize,
 }
 
-#[derive(Drop)]
+#[derive(Clone, Copy)]
 pub enum Verdict {
     Fine,
     Refused(ScheduleRefusal),

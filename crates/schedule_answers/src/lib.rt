@@ -1,4 +1,6 @@
 // The scheduler's answers and refusals in words: document 01's number and values.
+#![tactic(auto)]
+
 ghost use Rattle.std.specs.Prelude.{◌≡◌, [], ◌++◌, ◌≤◌, drop, length};
 ghost use Rattle.deletions.specs.Answers.{cleared_paper};
 ghost use Rattle.sweep.specs.Answers.{last_paper};

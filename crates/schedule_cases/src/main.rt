@@ -1,4 +1,6 @@
 // The scheduler's calls at every boundary: each line of the input is done, and written out with what came back and what it changed.
+#![tactic(auto)]
+
 mod calls;
 mod deleting;
 mod edits;

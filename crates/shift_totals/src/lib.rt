@@ -1,9 +1,11 @@
 // The totals of a shift: how many commands were released, discarded and missing.
+#![tactic(auto)]
+
 ghost use Rattle.std.specs.Prelude.{◌≡◌};
 ghost use Rattle.shift_totals.specs.Tally.{more as oneMore, tally, with_discarded, with_missing, with_released};
 
 // `behind` counts the released ones that came after a missing packet.
-#[derive(Drop)]
+#[derive(Clone, Copy)]
 pub struct Totals {
     pub released: u64,
     pub discarded: u64,

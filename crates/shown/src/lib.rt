@@ -1,4 +1,6 @@
 // Answers and refusals as words on standard output, for the test programs.
+#![tactic(auto)]
+
 mod answers;
 mod refusals;
 mod stored;

@@ -1,4 +1,6 @@
 // The slots of a store: where one lies in what is lent, the search for one, and the leaves that write one.
+#![tactic(auto)]
+
 ghost use Rattle.std.specs.Prelude.{◌≡◌, ◌<◌};
 ghost use Rattle.layout.specs.Limits.{max_subpools};
 ghost use Rattle.slots.specs.Inside.{cell_of};
@@ -8,13 +10,13 @@ use layout::Setup;
 pub mod bytes;
 pub mod search;
 
-#[derive(Drop)]
+#[derive(Clone, Copy)]
 pub enum StoreIdError {
     InvalidSubpool(u16),
     InvalidPacketIdx(u16),
 }
 
-#[derive(Drop)]
+#[derive(Clone, Copy)]
 pub enum StoreRefusal {
     BadSetup,
     BadBuffers,
@@ -27,7 +29,7 @@ pub enum StoreRefusal {
 }
 
 // A slot in the lent lists: its row of the length table, and where its bytes lie.
-#[derive(Drop)]
+#[derive(Clone, Copy)]
 pub struct Cell {
     pub pool: usize,
     pub slot: usize,

@@ -12,7 +12,7 @@ use crate::{Cell, StoreIdError, StoreRefusal};
 use address::StaticPoolAddr;
 use layout::{STORE_FREE, Setup};
 
-#[derive(Drop)]
+#[derive(Clone, Copy)]
 pub enum Spot {
     Refused(StoreRefusal),
     At(Cell),

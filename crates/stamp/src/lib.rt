@@ -1,4 +1,6 @@
 // Time stamps (document 01, module 3; CCSDS 301.0-B, day segmented code): the first byte says the width of the day; day from 1958, millisecond.
+#![tactic(auto)]
+
 ghost use Rattle.std.specs.Prelude.{◌≡◌, ◌<◌, ◌≤◌, T};
 ghost use Rattle.time.specs.Time.{secs_in_range};
 ghost use Rattle.stamp.specs.Stamp.{Reads, ReadsWidth, secs_of};
@@ -6,7 +8,7 @@ ghost use Rattle.stamp.specs.Stamp.{Reads, ReadsWidth, secs_of};
 use time::UnixTime;
 
 // What the first bytes of a slice are: a time and how many bytes its stamp has, or no stamp.
-#[derive(Drop)]
+#[derive(Clone, Copy)]
 pub enum Stamp {
     At(UnixTime, usize),
     Refused,

@@ -1,4 +1,6 @@
 // The fresh start, by its own judging: it knows 1, 2 and 4 only.
+#![tactic(auto)]
+
 ghost use Rattle.std.specs.Prelude.{length};
 ghost use Rattle.record.specs.Refusals.{done_paper};
 ghost use Rattle.starting.specs.Starting.{Starts, start_in};

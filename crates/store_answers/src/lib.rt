@@ -1,4 +1,6 @@
 // The store's answers and refusals in words: document 01's number and values.
+#![tactic(auto)]
+
 ghost use Rattle.std.specs.Prelude.{◌≡◌};
 ghost use Rattle.face_words.specs.Inside.{words_of};
 ghost use Rattle.store.specs.Refusals.{added_paper, deleted_paper};

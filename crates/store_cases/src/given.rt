@@ -3,7 +3,7 @@ use crate::command;
 use layout::Setup;
 use text::line;
 
-#[derive(Drop)]
+#[derive(Clone, Copy)]
 pub struct Given {
     pub setup: Setup,
     pub room: usize,

@@ -1,4 +1,6 @@
 // The worked cases of the static store, through its public calls: each line of the input is done, and written out with what came back.
+#![tactic(auto)]
+
 mod calls;
 mod command;
 mod damage;

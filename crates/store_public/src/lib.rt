@@ -1,4 +1,6 @@
 // The store's public calls: each judges the lent lists, and then does what the judged call does.
+#![tactic(auto)]
+
 ghost use Rattle.std.specs.Prelude.{◌≡◌, [], ◌+◌};
 ghost use Rattle.rules.specs.Papers.{says, done};
 ghost use Rattle.layout.specs.Judge.{judged as fineOr};

@@ -1,4 +1,6 @@
 // A command's packet put into the store and its entry into the schedule, or neither (document 01, module 5): how every insertion by bytes ends.
+#![tactic(auto)]
+
 ghost use Rattle.std.specs.Prelude.{◌≡◌, false, ◌<◌};
 ghost use Rattle.store.specs.Calls.{add_in};
 ghost use Rattle.layout.specs.Judge.{Sound as StoreSound};
@@ -17,13 +19,13 @@ use store::Added;
 use time::UnixTime;
 
 // What an insertion by bytes answers: the packet's address and its request ID.
-#[derive(Drop)]
+#[derive(Clone, Copy)]
 pub enum InsertAnswer {
     Inserted(TcInfo),
     Refused(ScheduleRefusal),
 }
 
-#[derive(Drop)]
+#[derive(Clone, Copy)]
 pub struct Inserted {
     pub next: Record,
     pub answer: InsertAnswer,

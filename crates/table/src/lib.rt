@@ -1,5 +1,7 @@
 // The schedule's table (document 01, module 5): packed rows in one lent slice, in release-time order, equal times in insertion order.
 // Searched by time: how many rows at the front lie before a moment. Each search by time is one of these.
+#![tactic(auto)]
+
 ghost use Rattle.std.specs.Prelude.{◌≡◌, ◌*◌, ◌+◌, ◌≤◌};
 ghost use Rattle.rows.specs.Entries.{unpack};
 ghost use Rattle.rows.specs.Order.{Sound};

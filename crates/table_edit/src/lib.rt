@@ -1,4 +1,6 @@
 // The schedule's table, changed: a row inserted at its place, and a range of rows removed.
+#![tactic(auto)]
+
 ghost use Rattle.std.specs.Prelude.{◌≡◌, ◌+◌, ◌≤◌};
 ghost use Rattle.table_edit.specs.Edits.{Spare, after_insert, after_remove, insert_at};
 ghost use Rattle.rows.specs.Entries.{entry_of, relaid, unpack};

@@ -1,22 +1,24 @@
 // The release tick (document 01; the original's `release_telecommands`): due entries leave the schedule, and a log says what became of each.
+#![tactic(auto)]
+
 use record::{Record, ScheduleRefusal};
 
 pub mod judged;
 
 // How many entries were handed out, and how many due ones remain.
-#[derive(Drop)]
+#[derive(Clone, Copy)]
 pub struct Handed {
     pub m: usize,
     pub remain: usize,
 }
 
-#[derive(Drop)]
+#[derive(Clone, Copy)]
 pub enum TickAnswer {
     HandedOut(Handed),
     Refused(ScheduleRefusal),
 }
 
-#[derive(Drop)]
+#[derive(Clone, Copy)]
 pub struct Ticked {
     pub next: Record,
     pub answer: TickAnswer,

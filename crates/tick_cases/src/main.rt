@@ -1,4 +1,6 @@
 // The release tick at every boundary: each line of the input is done, and a tick is written out with its answer, its log and what it changed.
+#![tactic(auto)]
+
 mod calls;
 mod given;
 mod state;

@@ -1,4 +1,6 @@
 // The tick as a caller has it who has not judged: it judges, and then does what the judged tick does.
+#![tactic(auto)]
+
 ghost use Rattle.schedule.specs.Judge.{judging};
 ghost use Rattle.tick.specs.Promise.{Ticks, tick_paper};
 ghost use Rattle.tick.specs.Tick.{tick_in};

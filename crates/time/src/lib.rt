@@ -1,4 +1,6 @@
 // Times and margins (document 01, "Sizes"): their ranges, their order, and clock + margin, which decides refusal 13.
+#![tactic(auto)]
+
 ghost use Rattle.std.specs.Prelude.{◌≡◌, ◌≤◌, ltb};
 ghost use Rattle.time.specs.Time.{
   InRange,
@@ -16,21 +18,21 @@ ghost use Rattle.time.specs.Time.{
 };
 
 // Seconds from 1970, and nanoseconds: what callers pass and what the record holds, in range or not.
-#[derive(Drop)]
+#[derive(Clone, Copy)]
 pub struct UnixTime {
     pub secs: i64,
     pub nanos: u32,
 }
 
 // How long before its release a command must be there.
-#[derive(Drop)]
+#[derive(Clone, Copy)]
 pub struct Margin {
     pub secs: u64,
     pub nanos: u32,
 }
 
 // A time in range, its seconds counted from -2^42 and so unsigned: what tables hold and tests compare.
-#[derive(Drop)]
+#[derive(Clone, Copy)]
 pub struct Moment {
     pub secs: u64,
     pub nanos: u32,

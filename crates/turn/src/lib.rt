@@ -1,4 +1,6 @@
 // One turn of a tick over the lent store, length table and log, for a caller that has judged: an entry's record, and in delete mode its packet gone.
+#![tactic(auto)]
+
 ghost use Rattle.std.specs.Prelude.{◌≡◌, ◌+◌, ◌≤◌, length};
 ghost use Rattle.layout.specs.Judge.{Sound as StoreSound};
 ghost use Rattle.slots.specs.Pools.{find};

@@ -1,4 +1,6 @@
 // The turns of a tick over the lent store, length table, rows and log, for a caller that has judged.
+#![tactic(auto)]
+
 ghost use Rattle.std.specs.Prelude.{◌≡◌, ◌<◌, ◌≤◌, length};
 ghost use Rattle.log.specs.Log.{max_log_bytes};
 ghost use Rattle.layout.specs.Judge.{Sound as StoreSound};

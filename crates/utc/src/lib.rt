@@ -1,9 +1,11 @@
 // Dates in UTC: the date of a day counted from 1 January 1970, and the day of a date.
+#![tactic(auto)]
+
 ghost use Rattle.std.specs.Prelude.{◌≡◌, ◌*◌, ◌<◌, ◌≤◌};
 ghost use Rattle.utc.specs.Calendar.{DateOf, DayOf, leap as isLeap, month_days, months_days, year_days, years_days};
 ghost use Rattle.utc.specs.Inside.{Months, Years};
 
-#[derive(Drop)]
+#[derive(Clone, Copy)]
 pub struct Date {
     pub year: u64,
     pub month: u64,
@@ -11,7 +13,7 @@ pub struct Date {
 }
 
 // Whole years or months, and the days left.
-#[derive(Drop)]
+#[derive(Clone, Copy)]
 pub struct Split {
     pub whole: u64,
     pub left: u64,

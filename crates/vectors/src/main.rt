@@ -1,4 +1,6 @@
 // The leaves, run through their public functions: each line of the input is written out again, with what they say of it.
+#![tactic(auto)]
+
 mod codes;
 mod packets;
 mod releases;

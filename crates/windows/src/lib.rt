@@ -1,4 +1,6 @@
 // Windows of time given as arguments (document 01, module 5): 4 for an end out of range, 15 for a start after the end, then the window in moments.
+#![tactic(auto)]
+
 ghost use Rattle.std.specs.Prelude.{◌≡◌, ◌&&◌, true, leb};
 ghost use Rattle.time.specs.Time.{InRange, instant};
 ghost use Rattle.selection.specs.Inside.{EndsInRange};
@@ -12,7 +14,7 @@ use time::UnixTime;
 pub mod judged;
 
 // A window of time, as it is given: an end that it has not is no argument.
-#[derive(Drop)]
+#[derive(Clone, Copy)]
 pub enum TimeWindow {
     All,
     FromTo(UnixTime, UnixTime),
@@ -20,14 +22,14 @@ pub enum TimeWindow {
     To(UnixTime),
 }
 
-#[derive(Drop)]
+#[derive(Clone, Copy)]
 pub enum Retrieved {
     Rows(Part),
     Refused(ScheduleRefusal),
 }
 
 // A window with its ends judged.
-#[derive(Drop)]
+#[derive(Clone, Copy)]
 pub enum Opened {
     At(MomentWindow),
     Refused(ScheduleRefusal),

@@ -1,4 +1,6 @@
 // Numbers of several bytes, high byte first (CCSDS 133.0-B, ECSS-E-ST-70-41C): reading and writing, at every width up to eight bytes.
+#![tactic(auto)]
+
 ghost use Rattle.std.specs.Prelude.{◌≡◌, ◌+◌, ◌≤◌, length};
 ghost use Rattle.std.proofs.lemmas.List.Edits.{sets};
 ghost use Rattle.words.specs.Words.{Reads, bytes_of};

@@ -1,0 +1,46 @@
+-- `packet::read` meets its contract: each test that was passed is one more line of `read_of`.
+use Rattle.packet.proofs.Readable.{readable_is}
+use Rattle.packet.specs.Packet.{read_of}
+use Rattle.packet_tests.specs.Tests.{long_enough}
+use Rattle.rules.proofs.Passing.{fails}
+use Rattle.rules.specs.Tests.{unless}
+use borrow.Author.Tests.{le-leb, lt-leb}
+use mathlib.Core.Bool.{true}
+use mathlib.Core.Path.{◌∙◌, ◌≡◌, ap, sym}
+use Rattle.packet.specs.declared.Reading.TheVariants.{Packet}
+use Rattle.packet.proofs.read.Goals as goal
+
+pub returns-then-bytes-lt13 : goal.returns-then-bytes-lt13
+unfolding read_of unless
+returns-then-bytes-lt13 c = simp (lt-leb _ _ c.if-bytes-lt13.true)
+
+pub returns-then-not-total_ok : goal.returns-then-not-total_ok
+unfolding read_of unless
+returns-then-not-total_ok c =
+    let long : long_enough 2 c.args.bytes.now ≡ true = le-leb _ _ c.if-bytes-lt13.false in
+    simp (long, fails c.total_in_bounds-total_ok.ensures c.if-not-total_ok.true)
+
+pub returns-then-not-bits_ok : goal.returns-then-not-bits_ok
+unfolding read_of unless
+returns-then-not-bits_ok c =
+    let long : long_enough 2 c.args.bytes.now ≡ true = le-leb _ _ c.if-bytes-lt13.false in
+    simp (long, total e2, fails c.header_bits-bits_ok.ensures c.if-not-bits_ok.true)
+
+pub returns-then-not-nibble_ok : goal.returns-then-not-nibble_ok
+unfolding read_of unless
+returns-then-not-nibble_ok c =
+    let long : long_enough 2 c.args.bytes.now ≡ true = le-leb _ _ c.if-bytes-lt13.false in
+    simp (long, total e2, bits e3, fails c.version_nibble-nibble_ok.ensures c.if-not-nibble_ok.true)
+
+pub returns-then-not-check_ok : goal.returns-then-not-check_ok
+unfolding read_of unless
+returns-then-not-check_ok c =
+    let long : long_enough 2 c.args.bytes.now ≡ true = le-leb _ _ c.if-bytes-lt13.false in
+    simp (long, total e2, bits e3, nibble e4, fails c.check_bytes-check_ok.ensures c.if-not-check_ok.true)
+
+pub returns : goal.returns
+returns c =
+    ap Packet c.header.ensures
+    ∙ sym
+    (readable_is 2 c.args.bytes.now
+    (record { long = long e1; total = total e2; bits = bits e3; nibble = nibble e4; check = check e5 }))

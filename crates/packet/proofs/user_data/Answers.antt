@@ -1,0 +1,9 @@
+-- `packet::user_data` meets its contract.
+use Rattle.packet.proofs.Readable.{data_none}
+use mathlib.Core.Path.{◌∙◌, refl, sym}
+use Rattle.packet.proofs.user_data.Goals as goal
+
+pub returns-in-Unreadable : goal.returns-in-Unreadable
+returns-in-Unreadable c =
+    let b = c.args.bytes in
+    data_none 2 b.now _ b.ref_ptr b.ref_ptr (sym c.read-reading.ensures ∙ c.enum_told-1.given.1) refl refl
