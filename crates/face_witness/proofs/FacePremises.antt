@@ -15,7 +15,7 @@ use Rattle.face_words.specs.Padding.{padded}
 use Rattle.gate.specs.Entering.{enter, insert_stored_in, timed}
 use Rattle.layout.specs.Judge.{buffers_ok as store_buffers_ok, last_size, setup_ok as store_setup_ok}
 use Rattle.layout.specs.Layout.{bytes_before, rows_before, size_at, slots_at}
-use Rattle.log.specs.Log.{log_bytes, offsets, record_bytes, records, total}
+use Rattle.release_log.specs.Log.{log_bytes, offsets, record_bytes, records, total}
 use Rattle.lookup.specs.Calls.{if_held, if_named}
 use Rattle.reading.specs.Reading.{read_in}
 use Rattle.record.specs.Record.{clock_in}

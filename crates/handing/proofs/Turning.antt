@@ -1,8 +1,8 @@
 -- The turns one after the other: what holds whenever the loop's test is reached.
 use Prim.Native.Nat.{◌*◌, ◌+◌, ◌-◌, ◌<◌, ◌≤◌, suc, ℕ}
-use Rattle.log.proofs.Sizes.{size_records}
-use Rattle.log.proofs.Whole.{ended, left, turn}
-use Rattle.log.specs.Log.{LogRecord, max_log_bytes, offsets, records, total}
+use Rattle.release_log.proofs.Sizes.{size_records}
+use Rattle.release_log.proofs.Whole.{ended, left, turn}
+use Rattle.release_log.specs.Log.{LogRecord, max_log_bytes, offsets, records, total}
 use Rattle.laid.proofs.Laid.{leaves_as, leaves_now, leaves_same, leaves_then}
 use Rattle.slots.specs.Pools.{Pool, find}
 use Rattle.slots.specs.View.{Leaves, view}

@@ -1,6 +1,6 @@
 -- The turns of entries that are all handed out: their records, the store after them, and what the code promises of both.
 use Rattle.std.specs.Prelude.{◌≤◌, ℕ, length, Bool, List, [], ◌∷◌, ◌≡◌}
-use Rattle.log.specs.Log.{LogRecord, log_bytes, max_log_bytes, total}
+use Rattle.release_log.specs.Log.{LogRecord, log_bytes, max_log_bytes, total}
 use Rattle.slots.specs.Pools.{Pool, find}
 use Rattle.slots.specs.View.{Leaves, view}
 use Rattle.rows.specs.Entries.{Entry}

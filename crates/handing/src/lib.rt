@@ -28,7 +28,7 @@ pub fn hand_out(
     let mut i: usize = 0;
     while i < m {
         let info = rows::tc_info(rows, m, i);
-        log::put_number(log, 8 + 4 * i, at);
+        release_log::put_number(log, 8 + 4 * i, at);
         let n = turn::hand_one(
             setup,
             store,
@@ -43,6 +43,6 @@ pub fn hand_out(
         at = at + n;
         i += 1;
     }
-    log::put_number(log, 0, m);
-    log::put_number(log, 4, at);
+    release_log::put_number(log, 0, m);
+    release_log::put_number(log, 4, at);
 }

@@ -1,6 +1,6 @@
 -- The reader of the log that a tick leaves finds every record that the tick handed out, and no more.
 use Prim.Native.Nat.{◌+◌, ◌≤◌, suc, zero, ℕ}
-use Rattle.log.specs.Log.{LogRecord}
+use Rattle.release_log.specs.Log.{LogRecord}
 use Rattle.log_laws.specs.Laws.{TickIsFound, Words, out_of}
 use Rattle.log_reader.proofs.Finds.{finds_all}
 use Rattle.log_reader.specs.Laws.{FindsAll}

@@ -1,6 +1,6 @@
 -- Where a tick hands out, the reader of the log that it leaves finds the records handed out, and no more.
 use Rattle.std.specs.Prelude.{◌<◌, ◌^◌, ℕ, get_or, Bool, List, ◌≡◌}
-use Rattle.log.specs.Log.{LogRecord}
+use Rattle.release_log.specs.Log.{LogRecord}
 use Rattle.log_reader.specs.Laws.{FindsAll}
 use Rattle.record.specs.declared.Record.{Record}
 use Rattle.rules.specs.Papers.{Paper}

@@ -1,6 +1,6 @@
 -- What is known of a log that counts a record, and what is found there.
 use Prim.Native.Nat.{◌*◌, ◌+◌, ◌<◌, ◌≤◌, ℕ}
-use Rattle.log.specs.Reading.{count_of, end_of, offset_of, record_in}
+use Rattle.release_log.specs.Reading.{count_of, end_of, offset_of, record_in}
 use Rattle.log_reader.specs.Finding.{between, counted, found_in}
 use Rattle.log_reader.specs.declared.Found.{Found}
 use Rattle.log_reader.specs.declared.Found.TheVariants.{Outside, Record}

@@ -1,9 +1,9 @@
 -- The reader finds every record that was written into a log, and no more.
 use Prim.Native.Nat.{◌*◌, ◌+◌, ◌<◌, ◌^◌, ◌≤◌, ℕ}
-use Rattle.log.proofs.Places.{LiesAt, each_lies}
-use Rattle.log.proofs.ReadBack.{Plain, count_back}
-use Rattle.log.specs.Log.{LogRecord, log_bytes, records_at, total}
-use Rattle.log.specs.Reading.{count_of, end_of, offset_of, record_in}
+use Rattle.release_log.proofs.Places.{LiesAt, each_lies}
+use Rattle.release_log.proofs.ReadBack.{Plain, count_back}
+use Rattle.release_log.specs.Log.{LogRecord, log_bytes, records_at, total}
+use Rattle.release_log.specs.Reading.{count_of, end_of, offset_of, record_in}
 use Rattle.log_reader.proofs.Counted.{found, lies, not_found}
 use Rattle.log_reader.specs.Finding.{between, counted, item_in, item_record}
 use Rattle.log_reader.specs.Laws.{Finds, FindsAll}

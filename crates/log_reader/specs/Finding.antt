@@ -1,7 +1,7 @@
 -- Record i of a log, where the log's numbers keep it inside the bytes given. Places and numbers are those of `log`'s `Reading`.
 use Rattle.std.specs.Prelude.{◌*◌, ◌+◌, ◌-◌, ℕ, ltb, drop, length, take, cond, List}
-use Rattle.log.specs.Log.{LogRecord}
-use Rattle.log.specs.Reading.{record_in, count_of, end_of, offset_of}
+use Rattle.release_log.specs.Log.{LogRecord}
+use Rattle.release_log.specs.Reading.{record_in, count_of, end_of, offset_of}
 use Rattle.log_reader.specs.declared.Found.{Found}
 use Rattle.log_reader.specs.declared.Found.TheVariants.{Outside, Record}
 use Rattle.log_reader.specs.declared.Item.{Item}

@@ -1,6 +1,6 @@
 -- What the reader owes to a log that holds records: it counts them, finds each one, and no more.
 use Rattle.std.specs.Prelude.{◌<◌, ◌≤◌, ℕ, get_or, length, List, ◌≡◌}
-use Rattle.log.specs.Log.{LogRecord}
+use Rattle.release_log.specs.Log.{LogRecord}
 use Rattle.log_reader.specs.Finding.{counted, found_in, item_record}
 use Rattle.log_reader.specs.declared.Found.TheVariants.{Outside, Record}
 use Rattle.log_reader.specs.declared.Item.{Item}

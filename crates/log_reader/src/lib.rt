@@ -2,7 +2,7 @@
 #![tactic(auto)]
 
 ghost use Rattle.std.specs.Prelude.{◌≡◌, ◌*◌, ◌+◌, ◌<◌, ◌≤◌, length};
-ghost use Rattle.log.specs.Reading.{count_of, end_of};
+ghost use Rattle.release_log.specs.Reading.{count_of, end_of};
 ghost use Rattle.log_reader.specs.Finding.{between as betweenIn, counted, found_in};
 
 // A record: flag, request ID, address as inserted, and where in the log its packet's bytes are.

@@ -3,7 +3,7 @@
 #![tactic(auto)]
 
 ghost use Rattle.std.specs.Prelude.{◌≡◌, ◌≤◌};
-ghost use Rattle.log.specs.Log.{max_log_bytes};
+ghost use Rattle.release_log.specs.Log.{max_log_bytes};
 ghost use Rattle.layout.specs.Judge.{Sound as StoreSound};
 ghost use Rattle.marks.specs.Promise.{Marking, Places};
 ghost use Rattle.slots.specs.View.{view};

@@ -1,6 +1,6 @@
 -- What meets the premises of the laws over sequences: they ask no more than their words say.
 use Rattle.std.specs.Prelude.{◌<◌, ◌≤◌, ℕ, length, List, [], ◌∷◌, ◌≡◌}
-use Rattle.log.specs.Log.{max_log_bytes}
+use Rattle.release_log.specs.Log.{max_log_bytes}
 use Rattle.scheduler.specs.Fits.{AllOfBytes, Bytes, OfBytes}
 use Rattle.scheduler.specs.Laws.{AllAmple}
 use Rattle.scheduler.specs.Steps.{Request, insert_wrapped}

@@ -5,7 +5,7 @@ use mathlib.Core.Bool.{Bool}
 use mathlib.Core.List.{List, [], ◌∷◌}
 use mathlib.Core.Path.{◌≡◌, ◌∙◌, ap, ap₂, sym}
 use native.Mathlib.Omega.{arith}
-use Rattle.log.specs.Log.{max_log_bytes}
+use Rattle.release_log.specs.Log.{max_log_bytes}
 use Rattle.record.specs.Refusals.{paper}
 use Rattle.record.specs.declared.Record.{Record}
 use Rattle.record.specs.declared.ScheduleRefusal.TheVariants.{LogTooSmall}

@@ -1,6 +1,6 @@
 -- The release tick (document 01, "The release tick and its log"): what is handed out, what it answers and what it leaves.
 use Rattle.std.specs.Prelude.{min, ℕ, leb, ltb, length, Bool, not, List, [], ◌∷◌}
-use Rattle.log.specs.Log.{log_bytes, max_log_bytes}
+use Rattle.release_log.specs.Log.{log_bytes, max_log_bytes}
 use Rattle.rules.specs.Papers.{Outcome, done, no, refused}
 use Rattle.rules.specs.Tests.{all_of, unless}
 use Rattle.schedule.specs.State.{State, with_entries, with_pools}

@@ -10,7 +10,7 @@ ghost use Rattle.tick.specs.Promise.{TickDoes, tick_paper};
 ghost use Rattle.tick.specs.Tick.{tick_in};
 
 use crate::{Handed, TickAnswer, Ticked};
-use log::MAX_LOG_BYTES;
+use release_log::MAX_LOG_BYTES;
 use record::{Record, ScheduleRefusal};
 use schedule::Setup;
 

@@ -1,6 +1,6 @@
 -- One turn: what the address finds, by the store's promise, and the store after it.
 use Prim.Native.Nat.{◌+◌, ◌-◌, ◌≤◌, ℕ}
-use Rattle.log.specs.Log.{record_bytes}
+use Rattle.release_log.specs.Log.{record_bytes}
 use Rattle.lookup.proofs.Finding.{found_held_at}
 use Rattle.rules.specs.Papers.{Paper, done, refused, says}
 use Rattle.laid.proofs.Laid.{leaves_as, leaves_same}

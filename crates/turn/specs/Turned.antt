@@ -1,6 +1,6 @@
 -- What one turn promises the loop over the turns.
 use Rattle.std.specs.Prelude.{◌+◌, ℕ, length, Bool, List, ◌≡◌}
-use Rattle.log.specs.Log.{record_bytes}
+use Rattle.release_log.specs.Log.{record_bytes}
 use Rattle.slots.specs.Pools.{find}
 use Rattle.slots.specs.View.{Leaves, view}
 use Rattle.turn.specs.Turns.{flag_for, leave, packet_of}

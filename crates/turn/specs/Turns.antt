@@ -1,6 +1,6 @@
 -- The turns of a tick: what each due entry hands out, and what is left (document 01, "The release tick and its log").
 use Rattle.std.specs.Prelude.{◌+◌, ◌-◌, ℕ, leb, ltb, length, take, Bool, false, true, List, [], ◌∷◌}
-use Rattle.log.specs.Log.{LogRecord}
+use Rattle.release_log.specs.Log.{LogRecord}
 use Rattle.rules.specs.Tests.{all_of, unless}
 use Rattle.slots.specs.Pools.{Found, Pool, find, held, no_pool, no_slot, vacant}
 use Rattle.store.specs.Edits.{edit, wipe}

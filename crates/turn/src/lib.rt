@@ -51,14 +51,14 @@ pub fn hand_one(
     let w = lookup::find(setup, store, lens, addr);
     match w {
         Whereabouts::Refused(_) => {
-            log::put_record(log, at, 2, id, addr, &store[0..0]);
+            release_log::put_record(log, at, 2, id, addr, &store[0..0]);
             17
         }
         Whereabouts::At(s) => {
             let from = s.from;
             let n = s.len;
             let end = from + n;
-            log::put_record(log, at, flag_of(on), id, addr, &store[from..end]);
+            release_log::put_record(log, at, flag_of(on), id, addr, &store[from..end]);
             drop_packet(setup, store, lens, addr, delete);
             17 + n
         }

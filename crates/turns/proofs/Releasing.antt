@@ -1,7 +1,7 @@
 -- The first m rows handed out are document 01's handout, where m of the first n fit and the clock and the limit allow n.
 use Prim.Native.Nat.{◌≤◌, min, ℕ}
 use Rattle.handing.specs.Handing.{HandsOut, after_all, turns}
-use Rattle.log.specs.Log.{LogRecord, log_bytes}
+use Rattle.release_log.specs.Log.{LogRecord, log_bytes}
 use Rattle.measure.specs.Fitting.{fitting}
 use Rattle.laid.proofs.Laid.{leaves_as}
 use Rattle.slots.specs.Pools.{Pool}

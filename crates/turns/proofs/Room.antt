@@ -1,7 +1,7 @@
 -- The log holds what is handed out; what the first record alone needs of it.
 use Prim.Native.Nat.{◌+◌, ◌<◌, ◌≤◌, suc, zero, ℕ}
-use Rattle.log.proofs.Sizes.{total_parts}
-use Rattle.log.specs.Log.{max_log_bytes}
+use Rattle.release_log.proofs.Sizes.{total_parts}
+use Rattle.release_log.specs.Log.{max_log_bytes}
 use Rattle.measure.specs.Fitting.{fitting}
 use Rattle.slots.specs.Pools.{Pool, find}
 use Rattle.slots.specs.View.{view}

@@ -1,6 +1,6 @@
 -- What is handed out of the rows of a schedule: how many, their log, and the store and the rows after them.
 use Rattle.std.specs.Prelude.{◌+◌, ◌≤◌, min, ℕ, length, Bool, List, [], ◌∷◌, ◌≡◌}
-use Rattle.log.specs.Log.{log_bytes}
+use Rattle.release_log.specs.Log.{log_bytes}
 use Rattle.slots.specs.Pools.{Pool, find}
 use Rattle.slots.specs.View.{Leaves, view}
 use Rattle.layout.specs.declared.Setup.{Setup}

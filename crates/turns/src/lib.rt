@@ -2,7 +2,7 @@
 #![tactic(auto)]
 
 ghost use Rattle.std.specs.Prelude.{◌≡◌, ◌<◌, ◌≤◌, length};
-ghost use Rattle.log.specs.Log.{max_log_bytes};
+ghost use Rattle.release_log.specs.Log.{max_log_bytes};
 ghost use Rattle.layout.specs.Judge.{Sound as StoreSound};
 ghost use Rattle.slots.specs.View.{view};
 ghost use Rattle.rows.specs.Entries.{unpack};

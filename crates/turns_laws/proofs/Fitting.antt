@@ -1,7 +1,7 @@
 -- The entries that fit do fit: how many they are, and what their log takes.
 use Rattle.rules.proofs.Cases.{either}
 use Prim.Native.Nat.{◌+◌, ◌≤◌, suc, ℕ}
-use Rattle.log.proofs.Sizes.{taken}
+use Rattle.release_log.proofs.Sizes.{taken}
 use Rattle.measure.specs.Fitting.{fitting}
 use Rattle.slots.specs.Pools.{Pool, find}
 use Rattle.rows.specs.Entries.{Entry}

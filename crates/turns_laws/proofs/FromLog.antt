@@ -1,8 +1,8 @@
 -- A reader of the log that a handout fills finds the records that were handed out, each where its offset says.
 use Prim.Native.Nat.{◌≤◌, suc, zero, ℕ}
-use Rattle.log.proofs.ReadBack.{Plain, read_back}
-use Rattle.log.specs.Log.{log_bytes, max_log_bytes, total}
-use Rattle.log.specs.Reading.{read_log}
+use Rattle.release_log.proofs.ReadBack.{Plain, read_back}
+use Rattle.release_log.specs.Log.{log_bytes, max_log_bytes, total}
+use Rattle.release_log.specs.Reading.{read_log}
 use Rattle.slots.specs.Pools.{Pool}
 use Rattle.rows.specs.Entries.{Entry}
 use Rattle.turn.specs.Turns.{handout}

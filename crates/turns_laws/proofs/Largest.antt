@@ -1,7 +1,7 @@
 -- "The largest number m of due entries that the limit allows and the log holds."
 use Prim.Native.Nat.{◌+◌, ◌≤◌, min, suc, zero, ℕ}
-use Rattle.log.proofs.Sizes.{taken, total_parts}
-use Rattle.log.specs.Log.{total}
+use Rattle.release_log.proofs.Sizes.{taken, total_parts}
+use Rattle.release_log.specs.Log.{total}
 use Rattle.measure.specs.Fitting.{fitting}
 use Rattle.rules.specs.Tests.{unless}
 use Rattle.slots.specs.Pools.{Pool, find}

@@ -2,8 +2,8 @@
 use Prim.Native.Nat.{◌*◌, ◌+◌, ◌-◌, ◌<◌, ◌≤◌, suc, zero, ℕ}
 use Rattle.layout.specs.Limits.{max_slot_size}
 use Rattle.layout.specs.declared.Setup.{Setup}
-use Rattle.log.proofs.Sizes.{size_records}
-use Rattle.log.specs.Log.{LogRecord, max_log_bytes, records, total}
+use Rattle.release_log.proofs.Sizes.{size_records}
+use Rattle.release_log.specs.Log.{LogRecord, max_log_bytes, records, total}
 use Rattle.turns_laws.specs.Draining.{room_for, rounded_up}
 use Rattle.turns_laws.specs.Premises.{FewestTicks, LargestIsOne, RoomToBeHad}
 use lib.ListN.{length, length-replicate, replicate}

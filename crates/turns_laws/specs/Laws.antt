@@ -1,7 +1,7 @@
 -- What the laws of one tick say of its handout: it is that of the first m entries, and m is the largest number.
 use Rattle.std.specs.Prelude.{◌<◌, ◌^◌, ◌≤◌, ℕ, drop, take, Bool, List, [], ◌∷◌, ◌≡◌}
 use Rattle.handing.specs.Handing.{after_all, turns}
-use Rattle.log.specs.Log.{total}
+use Rattle.release_log.specs.Log.{total}
 use Rattle.rows.specs.Entries.{Entry}
 use Rattle.slots.specs.Pools.{Pool}
 use Rattle.turn.specs.Turns.{Handout}

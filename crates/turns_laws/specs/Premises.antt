@@ -3,7 +3,7 @@ use Rattle.std.specs.Prelude.{◌*◌, ◌<◌, ◌≤◌, ℕ, length, replicat
 use Rattle.layout.specs.Layout.{size_at}
 use Rattle.layout.specs.Limits.{max_slot_size}
 use Rattle.layout.specs.declared.Setup.{Setup}
-use Rattle.log.specs.Log.{LogRecord, max_log_bytes, total}
+use Rattle.release_log.specs.Log.{LogRecord, max_log_bytes, total}
 use Rattle.turns_laws.specs.Draining.{largest_slot, room_for, rounded_up}
 
 -- a log of k records with packets of `big` bytes takes that room: its total is as much. The used part of a log has it for 254 records of the

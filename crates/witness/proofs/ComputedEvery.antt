@@ -3,7 +3,7 @@ use Rattle.check_code.specs.CheckCode.{check_code, feed, shift}
 use Rattle.counting.specs.Counting.{count_in}
 use Rattle.gate.specs.Entering.{enter, insert_stored_in, timed}
 use Rattle.insertions.specs.Inserting.{activity, insert_unwrapped_in}
-use Rattle.log.specs.Log.{log_bytes, offsets, record_bytes, records, total}
+use Rattle.release_log.specs.Log.{log_bytes, offsets, record_bytes, records, total}
 use Rattle.lookup.specs.Calls.{if_held, if_named}
 use Rattle.packet.specs.Packet.{data_of, read_of}
 use Rattle.packet_tests.specs.Tests.{check_bytes, header_bits, total_in_bounds, version_nibble}

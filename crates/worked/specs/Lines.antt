@@ -1,7 +1,7 @@
 -- Document 01's worked lines marked T, in its order, as one table, and one statement over it: each comes of the definitions.
 use Rattle.std.specs.Prelude.{◌-◌, ℕ, length, replicate, Bool, false, true, List, [], ◌++◌, ◌∷◌, ◌≡◌, refl, negsuc, pos}
 use Rattle.check_code.specs.CheckCode.{check_code, feed, shift}
-use Rattle.log.specs.Log.{log_bytes, offsets, record_bytes, records, total}
+use Rattle.release_log.specs.Log.{log_bytes, offsets, record_bytes, records, total}
 use Rattle.packet.specs.Packet.{id_of, id_word, read_of}
 use Rattle.packet_tests.specs.Tests.{check_bytes, header_bits, total_in_bounds, version_nibble}
 use Rattle.rows.specs.Entries.{Entry}

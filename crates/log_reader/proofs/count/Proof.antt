@@ -1,6 +1,6 @@
 -- `log_reader::count` meets its contract.
 use Rattle.log_reader.specs.Finding.{counted}
-use Rattle.log.specs.Reading.{count_of}
+use Rattle.release_log.specs.Reading.{count_of}
 use lib.ListN.{length}
 use Prim.Native.Nat.{◌*◌, ◌+◌, ◌<◌, ◌≤◌}
 use borrow.Author.Tests.{le-ltb, lt-ltb}

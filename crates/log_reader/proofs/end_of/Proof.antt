@@ -1,5 +1,5 @@
 -- `log_reader::end_of` meets its contract.
-use Rattle.log.specs.Reading.{count_of}
+use Rattle.release_log.specs.Reading.{count_of}
 use Prim.Native.Nat.{◌+◌, ◌<◌, ◌≤◌}
 use borrow.Author.Tests.{le-ltb, lt-ltb}
 use native.Mathlib.Omega.{arith}

@@ -1,6 +1,6 @@
--- `log::put_bytes` meets its contract. The loop's invariant: what is left to copy makes of the log now what the whole makes of it at entry.
+-- `release_log::put_bytes` meets its contract. The loop's invariant: what is left to copy makes of the log now what the whole makes of it at entry.
 use Prim.Native.Nat.{◌+◌, ◌-◌, ◌≤◌, ℕ}
-use Rattle.log.proofs.Putting.{copy_turn}
+use Rattle.release_log.proofs.Putting.{copy_turn}
 use lib.ListN.{drop, drop_of_length-le, length, length-set}
 use lib.Seq.{sets}
 use mathlib.Core.List.{List}
@@ -8,8 +8,8 @@ use mathlib.Core.Path.{◌∙◌, ◌≡◌, ap, sym}
 use native.Mathlib.Nat.{add-zero}
 use native.Mathlib.Omega.{arith}
 use borrow.Author.Rules.{rules}
-use Rattle.log.proofs.put_bytes.Statement.{statement}
-use Rattle.log.proofs.put_bytes.Tie as tie
+use Rattle.release_log.proofs.put_bytes.Statement.{statement}
+use Rattle.release_log.proofs.put_bytes.Tie as tie
 
 abbrev invariant_loop : tie.invariant_loop
 invariant_loop log₀ at s i₀ log i = (i ≤ length s) × ((length log ≡ length log₀) × (sets log (at + i) (drop i s) ≡ sets log₀ at s))

@@ -1,6 +1,6 @@
 -- How long a log is: its total T, which is 8 and for each record an offset (4), flag (1), request ID (8), address (8) and packet.
 use Prim.Native.Nat.{◌*◌, ◌+◌, ◌≤◌, ℕ}
-use Rattle.log.specs.Log.{LogRecord, log_bytes, offsets, record_bytes, records, total}
+use Rattle.release_log.specs.Log.{LogRecord, log_bytes, offsets, record_bytes, records, total}
 use Rattle.words.proofs.Sets.{length_bytes}
 use Rattle.words.specs.Words.{bytes_of}
 use lib.ListN.{drop, length, length-append}

@@ -1,9 +1,9 @@
 -- Each record of a log that was written lies where its offset and its end say, inside the log.
 use Prim.Native.Nat.{◌+◌, ◌<◌, ◌^◌, ◌≤◌, suc, zero, ℕ}
-use Rattle.log.proofs.ReadBack.{Plain, PlainOne, Stands, first_end, first_offset, first_record, further, stands}
-use Rattle.log.proofs.Sizes.{size_records, written}
-use Rattle.log.specs.Log.{LogRecord, log_bytes, records, records_at, total}
-use Rattle.log.specs.Reading.{end_of, offset_of, record_in}
+use Rattle.release_log.proofs.ReadBack.{Plain, PlainOne, Stands, first_end, first_offset, first_record, further, stands}
+use Rattle.release_log.proofs.Sizes.{size_records, written}
+use Rattle.release_log.specs.Log.{LogRecord, log_bytes, records, records_at, total}
+use Rattle.release_log.specs.Reading.{end_of, offset_of, record_in}
 use lib.ListN.{drop, get_or, length, length-append}
 use lib.Seq.{sets}
 use mathlib.Core.List.{List, [], ◌++◌, ◌∷◌}

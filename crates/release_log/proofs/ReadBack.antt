@@ -1,8 +1,8 @@
 -- A reader finds each record where its offset says: what was written into a log is read back from it.
 use Prim.Native.Nat.{◌*◌, ◌+◌, ◌-◌, ◌<◌, ◌^◌, ◌≤◌, suc, ℕ}
-use Rattle.log.proofs.Sizes.{size_offsets, size_record, size_records, total_more, written}
-use Rattle.log.specs.Log.{LogRecord, log_bytes, offsets, record_bytes, records, records_at, total}
-use Rattle.log.specs.Reading.{count_of, end_of, offset_of, read_from, read_log, record_in, total_of}
+use Rattle.release_log.proofs.Sizes.{size_offsets, size_record, size_records, total_more, written}
+use Rattle.release_log.specs.Log.{LogRecord, log_bytes, offsets, record_bytes, records, records_at, total}
+use Rattle.release_log.specs.Reading.{count_of, end_of, offset_of, read_from, read_log, record_in, total_of}
 use Rattle.words.proofs.RoundTrip.{number_at}
 use Rattle.words.proofs.Sets.{length_bytes}
 use Rattle.words.specs.Words.{bytes_of, number}

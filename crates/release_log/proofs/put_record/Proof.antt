@@ -1,11 +1,11 @@
--- `log::put_record` meets its contract: flag, request ID, address and packet are stored one behind the other.
-use Rattle.log.proofs.Putting.{record_is}
+-- `release_log::put_record` meets its contract: flag, request ID, address and packet are stored one behind the other.
+use Rattle.release_log.proofs.Putting.{record_is}
 use lib.ListN.{length-set}
 use mathlib.Core.Path.{◌∙◌}
 use native.Mathlib.Omega.{arith}
 use borrow.Author.Rules.{rules}
-use Rattle.log.proofs.put_record.Statement.{statement}
-use Rattle.log.proofs.put_record.Tie as tie
+use Rattle.release_log.proofs.put_record.Statement.{statement}
+use Rattle.release_log.proofs.put_record.Tie as tie
 
 write_requires : tie.Need-write-requires
 write_requires c κs = simp length-set (omega arith)

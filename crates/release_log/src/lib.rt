@@ -3,7 +3,7 @@
 
 ghost use Rattle.std.specs.Prelude.{◌≡◌, ◌+◌, ◌≤◌, length};
 ghost use Rattle.std.proofs.lemmas.List.Edits.{sets};
-ghost use Rattle.log.specs.Log.{record_bytes};
+ghost use Rattle.release_log.specs.Log.{record_bytes};
 ghost use Rattle.words.specs.Words.{bytes_of};
 
 // Of a log, only these first bytes are used.

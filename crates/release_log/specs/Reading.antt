@@ -1,6 +1,6 @@
 -- Reading a log: as many records as it counts, each at its offset, the last up to the total.
 use Rattle.std.specs.Prelude.{◌*◌, ◌+◌, ◌-◌, suc, zero, ℕ, ltb, drop, get_or, take, cond, List, [], ◌∷◌}
-use Rattle.log.specs.Log.{LogRecord}
+use Rattle.release_log.specs.Log.{LogRecord}
 use Rattle.words.specs.Words.{number}
 
 abbrev pub count_of : List ℕ → ℕ

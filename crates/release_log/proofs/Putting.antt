@@ -1,6 +1,6 @@
 -- Laws of the writers: a turn of the loop that copies, and a record part by part.
 use Prim.Native.Nat.{◌+◌, ◌<◌, ℕ}
-use Rattle.log.specs.Log.{LogRecord, record_bytes}
+use Rattle.release_log.specs.Log.{LogRecord, record_bytes}
 use Rattle.words.proofs.Sets.{length_bytes, sets_then}
 use Rattle.words.specs.Words.{bytes_of}
 use lib.ListN.{drop, get_or, length, set}

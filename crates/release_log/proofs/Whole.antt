@@ -1,7 +1,7 @@
 -- Laws of the whole log: what is left to write, a turn of the loop that writes it, and its end.
 use Prim.Native.Nat.{◌*◌, ◌+◌, ◌≤◌, suc, ℕ}
-use Rattle.log.proofs.Sizes.{size_offsets, size_record}
-use Rattle.log.specs.Log.{LogRecord, log_bytes, offsets, record_bytes, records, records_at, total}
+use Rattle.release_log.proofs.Sizes.{size_offsets, size_record}
+use Rattle.release_log.specs.Log.{LogRecord, log_bytes, offsets, record_bytes, records, records_at, total}
 use Rattle.words.proofs.Sets.{length_bytes, set_sets, sets_then}
 use Rattle.words.specs.Words.{bytes_of}
 use lib.ListN.{length, length-append, set}
