@@ -1,5 +1,5 @@
 -- `layout::bytes_before` meets its contract. The loop sees both arrays alone, so its invariant is over every setup that has them.
-use Rattle.std.proofs.Common.{◌-◌, sym, arith, rules}
+use Rattle.std.proofs.Common.{sym, arith, rules}
 use Rattle.layout.proofs.Layouts.{bytes_none, bytes_on, product}
 use Rattle.layout.proofs.bytes_before.Goals as goal
 

@@ -1,5 +1,5 @@
 -- `layout::rows_before` meets its contract. The loop sees the slots alone, so its invariant is over every setup that has them.
-use Rattle.std.proofs.Common.{◌-◌, sym, arith}
+use Rattle.std.proofs.Common.{sym, arith}
 use Rattle.layout.proofs.Layouts.{rows_none, rows_on}
 use Rattle.layout.proofs.rows_before.Goals as goal
 

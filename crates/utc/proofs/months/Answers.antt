@@ -1,7 +1,6 @@
 -- `utc::months` meets its contract.
 use Rattle.utc.proofs.Steps.{december, months_more}
 use Rattle.utc.specs.Calendar.{months_days}
-use Prim.Native.Nat.{◌-◌}
 use native.Mathlib.Omega.{arith}
 use Rattle.utc.proofs.months.Goals as goal
 

@@ -1,7 +1,7 @@
 -- `utc::months_before` meets its contract.
 use Rattle.utc.proofs.Steps.{month_most, months_more}
 use Rattle.utc.specs.Calendar.{months_days}
-use Prim.Native.Nat.{◌+◌, ◌-◌}
+use Prim.Native.Nat.{◌+◌}
 use native.Mathlib.Omega.{arith}
 use Rattle.utc.proofs.months_before.Goals as goal
 
@@ -16,4 +16,4 @@ loop-i-preserved c = (
   omega arith,
   omega (arith, months_more c.args.y c.loop-i.i),
   omega (arith, month_most c.args.y (c.loop-i.i + 1)),
-    )
+)

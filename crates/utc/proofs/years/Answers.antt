@@ -16,4 +16,4 @@ loop-next-preserved c = (
   omega (arith, years_more c.loop-next.n),
   omega (arith, some_days (1970 + c.loop-next.n)),
   c.year_days-next-in-loop-next.ensures,
-    )
+)

@@ -1,7 +1,7 @@
 -- `utc::years_before` meets its contract.
 use Rattle.utc.proofs.Steps.{year_most, years_more}
 use Rattle.utc.specs.Calendar.{years_days}
-use Prim.Native.Nat.{◌+◌, ◌-◌}
+use Prim.Native.Nat.{◌+◌}
 use native.Mathlib.Omega.{arith}
 use Rattle.utc.proofs.years_before.Goals as goal
 
@@ -16,4 +16,4 @@ loop-i-preserved c = (
   omega arith,
   omega (arith, years_more c.loop-i.i),
   omega (arith, year_most (1970 + c.loop-i.i)),
-    )
+)

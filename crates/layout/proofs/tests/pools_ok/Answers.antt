@@ -1,5 +1,5 @@
 -- `layout::tests::pools_ok` meets its contract.
-use Rattle.std.proofs.Common.{◌-◌, true, ◌∙◌, arith, rules, below_none, below_more}
+use Rattle.std.proofs.Common.{◌∙◌, arith, rules, below_none, below_more}
 use Rattle.layout.proofs.Layouts.{last_more, last_none, pool_test}
 use Rattle.rules.proofs.All.{all_end, all_stop}
 use Rattle.layout.proofs.tests.pools_ok.Goals as goal
@@ -22,7 +22,7 @@ loop-k-preserved c = (
       (pool_test _ _ _ _ _ _ _ c.loop-k.invariant.1
       c.size_at-size.ensures.0 c.slots_at.ensures.0 c.pool_ok-ok.ensures
       c.if-not-ok.false),
-    )
+)
 
 pub returns : goal.returns
 returns c = all_end _ _ _ c.loop-k-test.false c.loop-k.invariant.2

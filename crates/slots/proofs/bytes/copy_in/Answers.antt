@@ -1,5 +1,4 @@
 -- `slots::bytes::copy_in` meets its contract.
-use Prim.Native.Nat.{◌-◌}
 use Rattle.slots.proofs.Lists.{front_end}
 use mathlib.Core.Path.{◌∙◌}
 use native.Mathlib.Nat.{le_antisymm}

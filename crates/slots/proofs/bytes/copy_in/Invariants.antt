@@ -1,6 +1,5 @@
 -- `slots::bytes::copy_in` meets its contract.
 use Prim.Native.Nat.{◌-◌, ◌≤◌}
-use Rattle.slots.specs.View.{part}
 use lib.ListN.{drop, length, take}
 use mathlib.Core.List.{◌++◌}
 use mathlib.Core.Path.{◌≡◌}

@@ -1,7 +1,6 @@
 -- `slots::bytes::mark_free` meets its contract.
 use Prim.Native.Nat.{◌-◌, ◌≤◌}
 use Rattle.layout.specs.Limits.{store_free}
-use Rattle.slots.specs.View.{part}
 use lib.ListN.{drop, length, replicate}
 use mathlib.Core.List.{◌++◌}
 use mathlib.Core.Path.{◌≡◌}

@@ -1,6 +1,5 @@
 -- `slots::bytes::zero_fill` meets its contract.
 use Prim.Native.Nat.{◌-◌, ◌≤◌}
-use Rattle.slots.specs.View.{part}
 use lib.ListN.{drop, length, replicate}
 use mathlib.Core.List.{◌++◌}
 use mathlib.Core.Path.{◌≡◌}

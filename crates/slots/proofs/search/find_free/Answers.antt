@@ -1,8 +1,6 @@
 -- `slots::search::find_free` meets its contract.
-use Prim.Native.Nat.{◌-◌}
 use Rattle.rules.proofs.First.{first_end, first_stop}
 use borrow.Author.Tests.{eq-eqb}
-use mathlib.Core.Bool.{false}
 use borrow.Author.Rules.{rules}
 use Rattle.slots.proofs.search.find_free.Goals as goal
 

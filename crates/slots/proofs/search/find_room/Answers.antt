@@ -1,11 +1,9 @@
 -- `slots::search::find_room` meets its contract.
-use Prim.Native.Nat.{◌-◌}
 use Rattle.layout.proofs.Layouts.{rows_within}
 use Rattle.rules.proofs.First.{from_more}
 use Rattle.slots.proofs.Place.{free_slot_lem, room_at, room_full}
 use Rattle.slots.specs.Inside.{cell_of}
 use borrow.Author.Tests.{le-ltb, lt-ltb}
-use mathlib.Core.Bool.{false}
 use mathlib.Core.Path.{◌∙◌, ap}
 use native.Mathlib.Omega.{arith}
 use Rattle.slots.specs.declared.search.Spot.TheVariants.{At}

@@ -1,8 +1,6 @@
 -- `slots::search::find_subpool` meets its contract.
-use Prim.Native.Nat.{◌-◌}
 use Rattle.rules.proofs.First.{first_end, first_stop}
 use borrow.Author.Tests.{le-leb}
-use mathlib.Core.Bool.{false}
 use borrow.Author.Rules.{rules}
 use Rattle.slots.proofs.search.find_subpool.Goals as goal
 

@@ -1,0 +1,8 @@
+-- `tied::delete` meets its contract.
+use Rattle.demands.specs.Calling.{Calls}
+use borrow.Author.Rules.{rules}
+use Rattle.tied.proofs.delete.Goals as goal
+
+pub returns : goal.returns
+unfolding Calls
+returns c = search rules

@@ -1,0 +1,8 @@
+-- `tied::read` meets its contract.
+use Rattle.demands.specs.Calling.{Calls}
+use borrow.Author.Rules.{rules}
+use Rattle.tied.proofs.read.Goals as goal
+
+pub returns : goal.returns
+unfolding Calls
+returns c = search rules

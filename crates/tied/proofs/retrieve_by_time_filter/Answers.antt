@@ -1,0 +1,8 @@
+-- `tied::retrieve_by_time_filter` meets its contract.
+use Rattle.demands.specs.Calling.{Calls}
+use borrow.Author.Rules.{rules}
+use Rattle.tied.proofs.retrieve_by_time_filter.Goals as goal
+
+pub returns : goal.returns
+unfolding Calls
+returns c = search rules

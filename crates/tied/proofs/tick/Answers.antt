@@ -1,0 +1,8 @@
+-- `tied::tick` meets its contract.
+use Rattle.demands.specs.Calling.{Calls}
+use borrow.Author.Rules.{rules}
+use Rattle.tied.proofs.tick.Goals as goal
+
+pub returns : goal.returns
+unfolding Calls
+returns c = search rules
