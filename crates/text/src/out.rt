@@ -54,16 +54,16 @@ fn wide16(x: u16) -> u64 {
     x as u64
 }
 
-// A byte as two digits, the letters small.
-pub fn small(rt: &impl Print, b: u8) {
-    let _ = print!(rt; "{b:02x}");
+// A number in hexadecimal, of two digits at least, the letters small.
+pub fn small(rt: &impl Print, n: u64) {
+    let _ = print!(rt; "{n:02x}");
 }
 
 // Two digits for each byte.
 pub fn hex(rt: &impl Print, part: &[u8]) {
     let mut i: usize = 0;
     while i < part.len() {
-        small(rt, part[i]);
+        small(rt, wide8(part[i]));
         i += 1;
     }
 }
