@@ -2,4 +2,3 @@
 pub mod Numbers
 pub mod Changing
 pub mod Both
-pub mod Marking

@@ -28,7 +28,7 @@ size_records r rs = omega (arith, length-append (record_bytes r) (records rs), s
 pub size_offsets : (at : ℕ) (rs : List LogRecord) → length (offsets at rs) ≡ 4 * length rs
 unfolding offsets
 size_offsets at [] = refl
-size_offsets at (r ∷ rs) = length-append (bytes_of 4 at) _ ∙ ap₂ ◌+◌ (length_bytes 4 at) (size_offsets _ rs) ∙ omega arith
+size_offsets at (r ∷ rs) = length-append (bytes_of 4 at) _ ∙ ap₂ ◌+◌ (length_bytes 4 at) (size_offsets (at + 17 + length r.packet) rs) ∙ omega arith
 
 -- the log has as many bytes as its total says
 pub size_log : (rs : List LogRecord) → length (log_bytes rs) ≡ total rs

@@ -1,8 +1,8 @@
 -- `packet::read` meets its contract: each test that was passed is one more line of `read_of`.
 use Rattle.packet.proofs.Readable.{readable_is}
 use Rattle.packet.specs.Packet.{read_of}
-use Rattle.packet_tests.specs.Tests.{long_enough}
-use Rattle.rules.proofs.Passing.{fails}
+use Rattle.packet_tests.specs.Tests.{check_bytes, header_bits, long_enough, total_in_bounds, version_nibble}
+use Rattle.rules.proofs.Passing.{fails, passes}
 use Rattle.rules.specs.Tests.{unless}
 use borrow.Author.Tests.{le-leb, lt-leb}
 use mathlib.Core.Bool.{true}
@@ -24,23 +24,34 @@ pub returns-then-not-bits_ok : goal.returns-then-not-bits_ok
 unfolding read_of unless
 returns-then-not-bits_ok c =
     let long : long_enough 2 c.args.bytes.now ≡ true = le-leb _ _ c.if-bytes-lt13.false in
-    simp (long, total e2, fails c.header_bits-bits_ok.ensures c.if-not-bits_ok.true)
+    let total : total_in_bounds 2 c.args.bytes.now ≡ true = passes c.total_in_bounds-total_ok.ensures c.if-not-total_ok.false in
+    simp (long, total, fails c.header_bits-bits_ok.ensures c.if-not-bits_ok.true)
 
 pub returns-then-not-nibble_ok : goal.returns-then-not-nibble_ok
 unfolding read_of unless
 returns-then-not-nibble_ok c =
     let long : long_enough 2 c.args.bytes.now ≡ true = le-leb _ _ c.if-bytes-lt13.false in
-    simp (long, total e2, bits e3, fails c.version_nibble-nibble_ok.ensures c.if-not-nibble_ok.true)
+    let total : total_in_bounds 2 c.args.bytes.now ≡ true = passes c.total_in_bounds-total_ok.ensures c.if-not-total_ok.false in
+    let bits : header_bits c.args.bytes.now ≡ true = passes c.header_bits-bits_ok.ensures c.if-not-bits_ok.false in
+    simp (long, total, bits, fails c.version_nibble-nibble_ok.ensures c.if-not-nibble_ok.true)
 
 pub returns-then-not-check_ok : goal.returns-then-not-check_ok
 unfolding read_of unless
 returns-then-not-check_ok c =
     let long : long_enough 2 c.args.bytes.now ≡ true = le-leb _ _ c.if-bytes-lt13.false in
-    simp (long, total e2, bits e3, nibble e4, fails c.check_bytes-check_ok.ensures c.if-not-check_ok.true)
+    let total : total_in_bounds 2 c.args.bytes.now ≡ true = passes c.total_in_bounds-total_ok.ensures c.if-not-total_ok.false in
+    let bits : header_bits c.args.bytes.now ≡ true = passes c.header_bits-bits_ok.ensures c.if-not-bits_ok.false in
+    let nibble : version_nibble c.args.bytes.now ≡ true = passes c.version_nibble-nibble_ok.ensures c.if-not-nibble_ok.false in
+    simp (long, total, bits, nibble, fails c.check_bytes-check_ok.ensures c.if-not-check_ok.true)
 
 pub returns : goal.returns
 returns c =
+    let long : long_enough 2 c.args.bytes.now ≡ true = le-leb _ _ c.if-bytes-lt13.false in
+    let total : total_in_bounds 2 c.args.bytes.now ≡ true = passes c.total_in_bounds-total_ok.ensures c.if-not-total_ok.false in
+    let bits : header_bits c.args.bytes.now ≡ true = passes c.header_bits-bits_ok.ensures c.if-not-bits_ok.false in
+    let nibble : version_nibble c.args.bytes.now ≡ true = passes c.version_nibble-nibble_ok.ensures c.if-not-nibble_ok.false in
+    let check : check_bytes c.args.bytes.now ≡ true = passes c.check_bytes-check_ok.ensures c.if-not-check_ok.false in
     ap Packet c.header.ensures
     ∙ sym
     (readable_is 2 c.args.bytes.now
-    (record { long = long e1; total = total e2; bits = bits e3; nibble = nibble e4; check = check e5 }))
+    (record { long = long; total = total; bits = bits; nibble = nibble; check = check }))

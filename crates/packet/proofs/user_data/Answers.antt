@@ -6,4 +6,4 @@ use Rattle.packet.proofs.user_data.Goals as goal
 pub returns-in-Unreadable : goal.returns-in-Unreadable
 returns-in-Unreadable c =
     let b = c.args.bytes in
-    data_none 2 b.now _ b.ref_ptr b.ref_ptr (sym c.read-reading.ensures ∙ c.enum_told-1.given.1) refl refl
+    data_none 2 b.now _ b.ref_ptr b.ref_ptr (sym c.read-reading.ensures ∙ c.in-Unreadable.is) refl refl

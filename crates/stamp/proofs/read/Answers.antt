@@ -3,7 +3,7 @@ use Prim.Native.Nat.{suc, ℕ}
 use Rattle.stamp.specs.Stamp.{stamp_of}
 use borrow.Author.Tests.{eq-eqb, ne_eqb}
 use lib.ListN.{length}
-use mathlib.Core.List.{List, ◌∷◌}
+use mathlib.Core.List.{List, [], ◌∷◌}
 use mathlib.Core.Path.{◌≡◌, refl}
 use native.Mathlib.Omega.{arith}
 use Rattle.stamp.specs.declared.Stamp.TheVariants.{Refused}

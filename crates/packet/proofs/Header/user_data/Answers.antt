@@ -24,6 +24,22 @@ slice_bounds-result-count c =
     (omega arith, omega arith) in
     let h = fits in omega arith
 
+pub slice_bounds-result-start : goal.slice_bounds-result-start
+slice_bounds-result-start c =
+    let fits : (13 ≤ c.args.self.total) × (c.args.self.total ≤ length c.args.bytes.now) = let p = packet_is 2 c.args.bytes.now c.args.self c.requires in
+    let h = total_fits 2 c.args.bytes.now p.0.total in
+    let e = ap (λ (x : Header). x.total) p.1 in
+    (omega arith, omega arith) in
+    let h = fits in omega arith
+
+pub slice_bounds-result-end : goal.slice_bounds-result-end
+slice_bounds-result-end c =
+    let fits : (13 ≤ c.args.self.total) × (c.args.self.total ≤ length c.args.bytes.now) = let p = packet_is 2 c.args.bytes.now c.args.self c.requires in
+    let h = total_fits 2 c.args.bytes.now p.0.total in
+    let e = ap (λ (x : Header). x.total) p.1 in
+    (omega arith, omega arith) in
+    let h = fits in omega arith
+
 pub returns : goal.returns
 returns c =
     data_is 2 c.args.bytes.now c.args.self _ c.args.bytes.ref_ptr _ c.requires refl refl refl

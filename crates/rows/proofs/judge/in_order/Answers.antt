@@ -6,6 +6,7 @@ use Rattle.time.specs.Time.{giga}
 use mathlib.Core.Logic.{⊎_elim}
 use native.Mathlib.Omega.{arith}
 use Rattle.rows.proofs.judge.in_order.Goals as goal
+use Rattle.rows.proofs.judge.in_order.Goals.{then-s-secs+else-s-secs-2+else-n-nanos, else-s-secs}
 
 pub returns-then-n-gt999999999 : goal.returns-then-n-gt999999999
 returns-then-n-gt999999999 c =
@@ -28,9 +29,9 @@ loop-i-preserved c =
     let s = c.loop-i in
     let p = s.invariant.1 in
     let e = row a.rows.now s.i in
-    let up : s.secs ≤ e.secs = ⊎_elim (λ x. omega arith) (λ x. omega arith) c.if-s-secs.branch in
+    let up : s.secs ≤ e.secs = elim c.if-s-secs.branch [ then-s-secs+else-s-secs-2+else-n-nanos w ↦ omega arith | else-s-secs w ↦ omega arith ] in
     let on : s.secs * giga + s.nanos ≤ e.secs * giga + e.nanos
-    = ⊎_elim (λ x. omega (arith, p.range)) (λ x. omega (arith, p.range)) c.if-s-secs.branch in
+    = elim c.if-s-secs.branch [ then-s-secs+else-s-secs-2+else-n-nanos w ↦ omega (arith, p.range) | else-s-secs w ↦ omega (arith, p.range) ] in
     (omega arith, judge_next a.count a.rows.now s.i s.secs s.nanos (omega arith) p (omega arith) up on)
 
 pub returns : goal.returns

@@ -25,7 +25,7 @@ returns-then-s-count c =
     c.rows_before.ensures.0 c.slots_at-count.ensures.0
     c.find_free-s.ensures in
     ap At
-    (c.Cell-at.ensures
+    (c.cell_at.ensures
     ∙ ap
     (cell_of c.args.setup
     c.loop-k.k) f)

@@ -20,6 +20,6 @@ returns-then-slots_at-s c =
 pub returns : goal.returns
 returns c =
     rw (← c.wide-k.ensures.0, ← c.wide-s.ensures.0)
-    (ap At c.Cell-at.ensures
+    (ap At c.cell_at.ensures
     ∙ valid_yes _ _ _ c.if-n-k.false
     (rw c.slots_at.ensures.0 at c.if-slots_at-s.false))

@@ -1,0 +1,12 @@
+-- `release_log::put_bytes` meets its contract. The loop's invariant: what is left to copy makes of the log now what the whole makes of it at entry.
+use Prim.Native.Nat.{◌+◌, ◌-◌, ◌≤◌}
+use lib.ListN.{drop, length}
+use lib.Seq.{sets}
+use mathlib.Core.Path.{◌≡◌}
+use Rattle.release_log.proofs.put_bytes.Given as goal
+
+abbrev pub invariant-loop-i : goal.invariant-loop-i
+invariant-loop-i l = (l.i ≤ length l.s) × ((length l.log ≡ length l.initial.log) × (sets l.log (l.at + l.i) (drop l.i l.s) ≡ sets l.initial.log l.at l.s))
+
+abbrev pub decreases-loop-i : goal.decreases-loop-i
+decreases-loop-i l = length l.s - l.i
