@@ -1,6 +1,5 @@
 -- `check_code::rest` meets its contract. The loop's invariant: what is left of the bytes, fed to the code so far, gives what all of them give.
 use Prim.Native.Nat.{◌-◌, ◌≤◌}
-use Rattle.check_code.proofs.Widths.{start}
 use Rattle.check_code.specs.CheckCode.{feed_all}
 use lib.ListN.{drop, length}
 use mathlib.Core.Path.{◌≡◌}

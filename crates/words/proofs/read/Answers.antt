@@ -1,5 +1,5 @@
 -- `words::read` meets its contract. The loop's invariant: `v` is the number of the first `k` bytes, and below 2 ^ (8 * k).
-use Prim.Native.Nat.{◌*◌, ◌+◌, ◌-◌, ◌<◌, ℕ}
+use Prim.Native.Nat.{◌*◌, ◌+◌, ◌<◌, ℕ}
 use Rattle.words.proofs.Width.{byte_more, widen}
 use Rattle.words.specs.Words.{number}
 use lib.ListN.{get_or}

@@ -4,7 +4,6 @@ use Rattle.words.proofs.Sets.{bytes_turn}
 use Rattle.words.specs.Words.{bytes_of}
 use lib.ListN.{length-set}
 use lib.Seq.{sets}
-use mathlib.Core.Option.{none}
 use mathlib.Core.Path.{◌∙◌, ◌≡◌, ap}
 use native.Mathlib.Omega.{arith}
 use borrow.Author.Rules.{rules}

@@ -1,5 +1,5 @@
 -- `check_code::fold::all` meets its contract. The loop's invariant: what is left, fed to the code of the word, gives the code of all.
-use Prim.Native.Nat.{◌*◌, ◌+◌, ◌-◌, ◌<◌, ◌^◌, ℕ}
+use Prim.Native.Nat.{◌*◌, ◌+◌, ◌<◌, ◌^◌, ℕ}
 use Rattle.check_code.proofs.Folding.{into8, start8}
 use Rattle.check_code.specs.CheckCode.{check_code, feed_all}
 use Rattle.check_code.specs.Inside.{Takes8, feed8}
