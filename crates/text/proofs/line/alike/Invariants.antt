@@ -1,5 +1,5 @@
 -- `text::line::alike` is safe.
-use Prim.Native.Nat.{◌-◌, ◌≤◌}
+use Rattle.std.proofs.Common.{◌-◌, ◌≤◌}
 use Rattle.text.proofs.line.alike.Given as goal
 
 abbrev pub invariant-loop-i : goal.invariant-loop-i

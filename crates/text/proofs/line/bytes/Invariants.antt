@@ -1,7 +1,5 @@
 -- `text::line::bytes` meets its contract.
-use Prim.Native.Nat.{◌-◌, ◌≤◌}
-use lib.ListN.{length}
-use mathlib.Core.Path.{◌≡◌}
+use Rattle.std.proofs.Common.{◌-◌, ◌≤◌, length, ◌≡◌}
 use Rattle.text.proofs.line.bytes.Given as goal
 
 abbrev pub invariant-loop-i : goal.invariant-loop-i

@@ -1,6 +1,5 @@
 -- `text::line::end` meets its contract.
-use Prim.Native.Nat.{◌+◌, ◌-◌, ◌≤◌}
-use lib.ListN.{length}
+use Rattle.std.proofs.Common.{◌+◌, ◌-◌, ◌≤◌, length}
 use Rattle.text.proofs.line.end.Given as goal
 
 abbrev pub invariant-loop-i : goal.invariant-loop-i

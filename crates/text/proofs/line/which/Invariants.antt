@@ -1,6 +1,5 @@
 -- `text::line::which` is safe.
-use Prim.Native.Nat.{◌-◌, ◌≤◌}
-use lib.ListN.{length}
+use Rattle.std.proofs.Common.{◌-◌, ◌≤◌, length}
 use Rattle.text.proofs.line.which.Given as goal
 
 abbrev pub invariant-loop-at : goal.invariant-loop-at

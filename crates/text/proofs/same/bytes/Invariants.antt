@@ -1,6 +1,5 @@
 -- `text::same::bytes` is safe.
-use Prim.Native.Nat.{◌-◌}
-use lib.ListN.{length}
+use Rattle.std.proofs.Common.{◌-◌, length}
 use Rattle.text.proofs.same.bytes.Given as goal
 
 abbrev pub invariant-loop-i : goal.invariant-loop-i
