@@ -6,17 +6,17 @@ mod shift;
 
 use report::totals;
 use shift::Shift;
-use text::line;
+use text::{input, line};
 
-fn main() {
-    let mut text = io::large_buffer();
-    let n = io::read_full(libc::STDIN_FILENO, &mut text);
-    let s = all(&text[..n]);
+fn main(rt: HostRuntime) {
+    let mut text = input::large_buffer();
+    let n = input::read_full(&mut rt.stdin(), &mut text);
+    let s = all(&rt, &text[..n]);
     let rec = s.rec;
-    totals::show(rec.count, s.totals);
+    totals::show(&rt, rec.count, s.totals);
 }
 
-fn all(text: &[u8]) -> Shift {
+fn all(rt: &impl Print, text: &[u8]) -> Shift {
     let mut store = [0u8; 160];
     let mut lens = [65535u16; 8];
     let mut rows = [0u64; 32];
@@ -25,10 +25,10 @@ fn all(text: &[u8]) -> Shift {
     while at < text.len() {
         let end = line::end(text, at, b'\n');
         if end >= text.len() {
-            return requests::one(s, &text[at..], &mut store, &mut lens, &mut rows);
+            return requests::one(rt, s, &text[at..], &mut store, &mut lens, &mut rows);
         }
         let next = end + 1;
-        s = requests::one(s, &text[at..end], &mut store, &mut lens, &mut rows);
+        s = requests::one(rt, s, &text[at..end], &mut store, &mut lens, &mut rows);
         at = next;
     }
     s

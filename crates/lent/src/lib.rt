@@ -51,6 +51,7 @@ pub fn same_but_count(a: Record, b: Record) -> bool {
 
 // Whether the tables are as their copies; which are not is written out.
 pub fn same_tables(
+    rt: &impl Print,
     s: &[u8],
     store: &[u8],
     l: &[u16],
@@ -58,9 +59,9 @@ pub fn same_tables(
     r: &[u64],
     rows: &[u64],
 ) -> bool {
-    let a = unless(b" store", same::bytes(s, store));
-    let b = unless(b" lengths", same::shorts(l, lens));
-    let c = unless(b" rows", same::longs(r, rows));
+    let a = unless(rt, b" store", same::bytes(s, store));
+    let b = unless(rt, b" lengths", same::shorts(l, lens));
+    let c = unless(rt, b" rows", same::longs(r, rows));
     both(both(a, b), c)
 }
 
@@ -69,9 +70,9 @@ pub fn both(a: bool, b: bool) -> bool {
 }
 
 // The name of what is not the same.
-pub fn unless(name: &[u8], same: bool) -> bool {
+pub fn unless(rt: &impl Print, name: &[u8], same: bool) -> bool {
     if !same {
-        out::say(name);
+        out::say(rt, name);
     }
     same
 }

@@ -8,20 +8,20 @@ ghost use Rattle.std.specs.Prelude.{◌≡◌, ◌≤◌, length};
 use oracle_words::records::GROUND;
 use oracle_words::{answers, kinds, states};
 use tally::{CELLS, Line};
-use text::{line, out};
+use text::{input, line, out};
 
 // The names of the calls, in the order of `kinds`; behind them that of the row for all of them.
-fn main() {
+fn main(rt: HostRuntime) {
     let mut text = room();
-    let n = io::read_full(libc::STDIN_FILENO, &mut text);
+    let n = input::read_full(&mut rt.stdin(), &mut text);
     if n == 2097152 {
-        out::say(b"the list is longer than there is room for\n");
+        out::say(&rt, b"the list is longer than there is room for\n");
     }
     let mut cells = [0u64; CELLS];
     let names =
         b"new clock enable disable num wrapped wrappedl unwrapped unwrappedt stored window delwin delall reset delid delidp release add read modify delete has len dump drain all";
-    replay(&text[..n], names, &mut cells);
-    tally::show(&cells, names);
+    replay(&rt, &text[..n], names, &mut cells);
+    tally::show(&rt, &cells, names);
 }
 
 // Room for the list, and more. The `ensures` gives only the length, which lending it asks for.
@@ -32,7 +32,7 @@ fn room() -> [u8; 2097152]
 }
 
 // Tables with room for every setup of the list. They are never cleared: each sequence's fresh start finds what the one before left.
-fn replay(text: &[u8], names: &[u8], cells: &mut [u64; CELLS]) {
+fn replay(rt: &impl Print, text: &[u8], names: &[u8], cells: &mut [u64; CELLS]) {
     let mut setup = [0u64; 19];
     let mut record = [77u64; 6];
     let mut store = [238u8; 8192];
@@ -43,6 +43,7 @@ fn replay(text: &[u8], names: &[u8], cells: &mut [u64; CELLS]) {
     while at < text.len() {
         let end = line::end(text, at, b'\n');
         let l = one(
+            rt,
             line::which(&text[at..end], 0, names),
             &text[at..end],
             &mut setup,
@@ -59,6 +60,7 @@ fn replay(text: &[u8], names: &[u8], cells: &mut [u64; CELLS]) {
 
 // A request, and from the arrow on what the original answered.
 fn one(
+    rt: &impl Print,
     k: usize,
     text: &[u8],
     setup: &mut [u64],
@@ -72,10 +74,11 @@ fn one(
     set_up(k, &text[0..arrow], setup);
     let w = setup_words(setup);
     if k >= kinds::DUMP {
-        let same = states::shown(k, text, arrow, &setup[0..w], record, store, lens, rows);
+        let same = states::shown(rt, k, text, arrow, &setup[0..w], record, store, lens, rows);
         return tally::of(k, 0, same);
     }
     asked(
+        rt,
         k,
         text,
         arrow,
@@ -89,6 +92,7 @@ fn one(
 }
 
 fn asked(
+    rt: &impl Print,
     k: usize,
     text: &[u8],
     arrow: usize,
@@ -114,7 +118,7 @@ fn asked(
         bytes,
         &mut words,
     );
-    let same = answers::told(k, text, arrow, number, &words, rows, bytes);
+    let same = answers::told(rt, k, text, arrow, number, &words, rows, bytes);
     tally::of(k, number, same)
 }
 

@@ -55,34 +55,34 @@ fn cell(k: usize, number: u32) -> usize
     k * 21 + (number % 21) as usize
 }
 
-pub fn show(cells: &[u64; CELLS], names: &[u8]) {
-    table(cells, names);
-    out::number(b"\nsequences ", cells[0]);
-    out::number(b"\nlines ", cells[LINES]);
-    out::number(b"\ndifferent ", cells[DIFFERENT]);
-    out::say(b"\n");
+pub fn show(rt: &impl Print, cells: &[u64; CELLS], names: &[u8]) {
+    table(rt, cells, names);
+    out::number(rt, b"\nsequences ", cells[0]);
+    out::number(rt, b"\nlines ", cells[LINES]);
+    out::number(rt, b"\ndifferent ", cells[DIFFERENT]);
+    out::say(rt, b"\n");
 }
 
-fn table(cells: &[u64; CELLS], names: &[u8]) {
+fn table(rt: &impl Print, cells: &[u64; CELLS], names: &[u8]) {
     let mut i: usize = 0;
     while i < LINES {
         if i % 21 == 0 {
-            name(names, i / 21);
+            name(rt, names, i / 21);
         }
-        number(i % 21, cells[i]);
+        number(rt, i % 21, cells[i]);
         i += 1;
     }
 }
 
 // Each in a line of its own.
-fn name(names: &[u8], k: usize) {
-    out::say(b"\n");
-    out::word(names, k);
+fn name(rt: &impl Print, names: &[u8], k: usize) {
+    out::say(rt, b"\n");
+    out::word(rt, names, k);
 }
 
-fn number(number: usize, times: u64) {
+fn number(rt: &impl Print, number: usize, times: u64) {
     if times > 0 {
-        out::number(b" ", number as u64);
-        out::number(b":", times);
+        out::number(rt, b" ", number as u64);
+        out::number(rt, b":", times);
     }
 }

@@ -19,23 +19,35 @@ pub fn next(i: usize, by: usize) -> usize {
 }
 
 // A bar, and so many rows from a row on.
-pub fn entries(text: &[u8], at: usize, rows: &[u64], first: usize, n: usize) -> usize {
-    let mut to = said::text(text, at, b" |");
+pub fn entries(
+    rt: &impl Print,
+    text: &[u8],
+    at: usize,
+    rows: &[u64],
+    first: usize,
+    n: usize,
+) -> usize {
+    let mut to = said::text(rt, text, at, b" |");
     let mut i: usize = first % 4096 * 4;
     let mut left: usize = n;
     while left > 0 {
-        to = entry(text, to, rows, i);
+        to = entry(rt, text, to, rows, i);
         i = next(i, 4);
         left -= 1;
     }
     to
 }
 
-fn entry(text: &[u8], at: usize, rows: &[u64], i: usize) -> usize {
-    let secs = said::signed(text, at, std::num::wrapping_sub_u64(word(rows, i), ZERO));
-    let nanos = said::number(text, secs, b',', word(rows, next(i, 1)));
-    let id = said::number(text, nanos, b',', word(rows, next(i, 2)));
-    said::number(text, id, b',', word(rows, next(i, 3)))
+fn entry(rt: &impl Print, text: &[u8], at: usize, rows: &[u64], i: usize) -> usize {
+    let secs = said::signed(
+        rt,
+        text,
+        at,
+        std::num::wrapping_sub_u64(word(rows, i), ZERO),
+    );
+    let nanos = said::number(rt, text, secs, b',', word(rows, next(i, 1)));
+    let id = said::number(rt, text, nanos, b',', word(rows, next(i, 2)));
+    said::number(rt, text, id, b',', word(rows, next(i, 3)))
 }
 
 fn byte(s: &[u8], i: usize) -> u64 {
@@ -67,7 +79,7 @@ fn place(log: &[u8], at: usize) -> usize {
 }
 
 // Each record lies from its offset to the next one's, the first behind the offsets, the last to the total; behind that all is as it was.
-pub fn released(text: &[u8], at: usize, log: &[u8]) -> usize {
+pub fn released(rt: &impl Print, text: &[u8], at: usize, log: &[u8]) -> usize {
     let n = place(log, 0) % 65536;
     let total = place(log, 4);
     let mut to = at;
@@ -75,15 +87,15 @@ pub fn released(text: &[u8], at: usize, log: &[u8]) -> usize {
     let mut offset: usize = 8;
     let mut left: usize = n;
     while left > 0 {
-        to = unless(place(log, offset) == from, text, to, b'O');
+        to = unless(rt, place(log, offset) == from, text, to, b'O');
         offset = next(offset, 4);
         let end = last_or(left, total, place(log, offset));
-        to = one(text, to, log, from, end);
+        to = one(rt, text, to, log, from, end);
         from = end;
         left -= 1;
     }
-    to = unless(from == total, text, to, b'T');
-    unless(untouched(log, total), text, to, b'B')
+    to = unless(rt, from == total, text, to, b'T');
+    unless(rt, untouched(log, total), text, to, b'B')
 }
 
 fn last_or(left: usize, total: usize, offset: usize) -> usize {
@@ -94,24 +106,25 @@ fn last_or(left: usize, total: usize, offset: usize) -> usize {
 }
 
 // A letter where it is not so: O for an offset, T for the total, B for what is behind.
-fn unless(fine: bool, text: &[u8], at: usize, fault: u8) -> usize {
+fn unless(rt: &impl Print, fine: bool, text: &[u8], at: usize, fault: u8) -> usize {
     if fine {
         return at;
     }
-    said::byte(text, at, fault)
+    said::byte(rt, text, at, fault)
 }
 
 // Flag, request ID, address, packet.
-fn one(text: &[u8], at: usize, log: &[u8], from: usize, end: usize) -> usize {
-    let bar = said::text(text, at, b" |");
-    let flag = said::number(text, bar, b' ', byte(log, from));
-    let id = said::number(text, flag, b' ', big(log, next(from, 1), 8));
-    let address = said::number(text, id, b' ', big(log, next(from, 9), 8));
-    packet(text, address, log, next(from, 17), end)
+fn one(rt: &impl Print, text: &[u8], at: usize, log: &[u8], from: usize, end: usize) -> usize {
+    let bar = said::text(rt, text, at, b" |");
+    let flag = said::number(rt, text, bar, b' ', byte(log, from));
+    let id = said::number(rt, text, flag, b' ', big(log, next(from, 1), 8));
+    let address = said::number(rt, text, id, b' ', big(log, next(from, 9), 8));
+    packet(rt, text, address, log, next(from, 17), end)
 }
 
-fn packet(text: &[u8], at: usize, log: &[u8], from: usize, end: usize) -> usize {
+fn packet(rt: &impl Print, text: &[u8], at: usize, log: &[u8], from: usize, end: usize) -> usize {
     said::part(
+        rt,
         text,
         at,
         b' ',

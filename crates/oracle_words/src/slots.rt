@@ -12,7 +12,15 @@ struct Place {
     row: usize,
 }
 
-pub fn all(text: &[u8], at: usize, setup: &[u64], store: &[u8], lens: &[u16], free: bool) -> usize {
+pub fn all(
+    rt: &impl Print,
+    text: &[u8],
+    at: usize,
+    setup: &[u64],
+    store: &[u8],
+    lens: &[u16],
+    free: bool,
+) -> usize {
     let mut p = Place {
         at: at,
         from: 0,
@@ -22,6 +30,7 @@ pub fn all(text: &[u8], at: usize, setup: &[u64], store: &[u8], lens: &[u16], fr
     let mut i: usize = 3;
     while i < setup.len() {
         p = pool(
+            rt,
             text,
             p,
             base,
@@ -39,6 +48,7 @@ pub fn all(text: &[u8], at: usize, setup: &[u64], store: &[u8], lens: &[u16], fr
 
 // The slots of one subpool, so many of one size.
 fn pool(
+    rt: &impl Print,
     text: &[u8],
     p: Place,
     base: u64,
@@ -55,7 +65,7 @@ fn pool(
     let mut address = base;
     let mut left: u64 = slots % 65536;
     while left > 0 {
-        at = slot(text, at, address, len(lens, row), from, n, store, free);
+        at = slot(rt, text, at, address, len(lens, row), from, n, store, free);
         from = next(from, n);
         row = next(row, 1);
         address = std::num::wrapping_add_u64(address, 1);
@@ -76,6 +86,7 @@ fn len(lens: &[u16], row: usize) -> u16 {
 }
 
 fn slot(
+    rt: &impl Print,
     text: &[u8],
     at: usize,
     address: u64,
@@ -87,23 +98,23 @@ fn slot(
 ) -> usize {
     if len == FREE {
         if free {
-            let to = said::number(text, at, b' ', address);
-            return zeros_or(text, to, store, from, size);
+            let to = said::number(rt, text, at, b' ', address);
+            return zeros_or(rt, text, to, store, from, size);
         }
         return at;
     }
     if free {
         return at;
     }
-    let to = said::number(text, at, b' ', address);
-    said::part(text, to, b':', store, from, len as usize)
+    let to = said::number(rt, text, at, b' ', address);
+    said::part(rt, text, to, b':', store, from, len as usize)
 }
 
-fn zeros_or(text: &[u8], at: usize, store: &[u8], from: usize, n: usize) -> usize {
+fn zeros_or(rt: &impl Print, text: &[u8], at: usize, store: &[u8], from: usize, n: usize) -> usize {
     if zeros(store, from, n) {
-        return said::text(text, at, b":0");
+        return said::text(rt, text, at, b":0");
     }
-    said::part(text, at, b':', store, from, n)
+    said::part(rt, text, at, b':', store, from, n)
 }
 
 fn zeros(store: &[u8], from: usize, n: usize) -> bool {

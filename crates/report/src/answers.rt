@@ -22,46 +22,46 @@ fn id_of(id: u64) -> RequestId
 }
 
 // Whose command it is.
-pub fn request(id: u64) {
+pub fn request(rt: &impl Print, id: u64) {
     let r = id_of(id);
-    out::number(b"APID ", r.apid as u64);
-    out::number(b", sequence count ", r.seq_count as u64);
+    out::number(rt, b"APID ", r.apid as u64);
+    out::number(rt, b", sequence count ", r.seq_count as u64);
 }
 
-pub fn done(a: Done) {
+pub fn done(rt: &impl Print, a: Done) {
     match a {
-        Done::Ok => out::say(b": accepted (0)\n"),
-        Done::Refused(e) => refusals::of_schedule(e),
+        Done::Ok => out::say(rt, b": accepted (0)\n"),
+        Done::Refused(e) => refusals::of_schedule(rt, e),
     }
 }
 
-pub fn inserted(a: InsertAnswer) {
+pub fn inserted(rt: &impl Print, a: InsertAnswer) {
     match a {
         InsertAnswer::Inserted(i) => {
-            out::number(b": accepted (0), stored at address ", i.addr);
-            out::say(b", ");
-            request(i.request_id);
-            out::say(b"\n");
+            out::number(rt, b": accepted (0), stored at address ", i.addr);
+            out::say(rt, b", ");
+            request(rt, i.request_id);
+            out::say(rt, b"\n");
         }
-        InsertAnswer::Refused(e) => refusals::of_schedule(e),
+        InsertAnswer::Refused(e) => refusals::of_schedule(rt, e),
     }
 }
 
-pub fn deleted(a: Deleted) {
+pub fn deleted(rt: &impl Print, a: Deleted) {
     match a {
-        Deleted::Done => out::say(b": deleted (0)\n"),
-        Deleted::Refused(e) => refusals::of_store(e),
+        Deleted::Done => out::say(rt, b": deleted (0)\n"),
+        Deleted::Refused(e) => refusals::of_store(rt, e),
     }
 }
 
 // How many entries were handed out, and how many due ones remain.
-pub fn ticked(a: TickAnswer) {
+pub fn ticked(rt: &impl Print, a: TickAnswer) {
     match a {
         TickAnswer::HandedOut(h) => {
-            out::number(b": accepted (0), handed out ", h.m as u64);
-            out::number(b", due and left ", h.remain as u64);
-            out::say(b"\n");
+            out::number(rt, b": accepted (0), handed out ", h.m as u64);
+            out::number(rt, b", due and left ", h.remain as u64);
+            out::say(rt, b"\n");
         }
-        TickAnswer::Refused(e) => refusals::of_schedule(e),
+        TickAnswer::Refused(e) => refusals::of_schedule(rt, e),
     }
 }

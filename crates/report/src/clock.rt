@@ -6,56 +6,56 @@ use time::{Moment, UnixTime};
 use utc::Date;
 
 // At least two digits.
-fn two(text: &[u8], n: u64) {
-    out::say(text);
+fn two(rt: &impl Print, text: &[u8], n: u64) {
+    out::say(rt, text);
     if n < 10 {
-        out::say(b"0");
+        out::say(rt, b"0");
     }
-    out::number(b"", n);
+    out::number(rt, b"", n);
 }
 
-fn date(d: Date) {
-    out::number(b"", d.year);
-    two(b"-", d.month);
-    two(b"-", d.day);
+fn date(rt: &impl Print, d: Date) {
+    out::number(rt, b"", d.year);
+    two(rt, b"-", d.month);
+    two(rt, b"-", d.day);
 }
 
 // A time of day, from the seconds since midnight.
-fn time_of_day(s: u64) {
-    two(b" ", s / 3600);
-    two(b":", s / 60 % 60);
-    two(b":", s % 60);
+fn time_of_day(rt: &impl Print, s: u64) {
+    two(rt, b" ", s / 3600);
+    two(rt, b":", s / 60 % 60);
+    two(rt, b":", s % 60);
 }
 
 // A time; its seconds as a number where it lies before 1970 or out of range, and its nanoseconds where there are any.
-pub fn show(text: &[u8], t: UnixTime) {
-    out::say(text);
+pub fn show(rt: &impl Print, text: &[u8], t: UnixTime) {
+    out::say(rt, text);
     if t.in_range() {
-        biased(t.to_moment());
+        biased(rt, t.to_moment());
     } else {
-        out::signed(b"second ", t.secs);
+        out::signed(rt, b"second ", t.secs);
     }
     if t.nanos > 0 {
-        out::number(b" and ns ", t.nanos as u64);
+        out::number(rt, b" and ns ", t.nanos as u64);
     }
 }
 
-fn biased(m: Moment) {
+fn biased(rt: &impl Print, m: Moment) {
     if m.secs < 4398046511104 {
-        out::number(b"second -", 4398046511104 - m.secs);
+        out::number(rt, b"second -", 4398046511104 - m.secs);
         return;
     }
-    since_1970(m.secs - 4398046511104);
+    since_1970(rt, m.secs - 4398046511104);
 }
 
 // 2^42 seconds are some 51 million days.
-fn since_1970(s: u64) {
+fn since_1970(rt: &impl Print, s: u64) {
     if s > 4398046511104 {
-        out::number(b"second ", s);
+        out::number(rt, b"second ", s);
         return;
     }
-    date(utc::date_of((s / 86400) as u32));
-    time_of_day(s % 86400);
+    date(rt, utc::date_of((s / 86400) as u32));
+    time_of_day(rt, s % 86400);
 }
 
 // The place behind the first mark from a place on.

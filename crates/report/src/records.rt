@@ -8,62 +8,62 @@ use shift_totals::Totals;
 use text::out;
 use time::UnixTime;
 
-fn fate(flag: u8) {
+fn fate(rt: &impl Print, flag: u8) {
     if flag == 1 {
-        out::say(b"  released,  ");
+        out::say(rt, b"  released,  ");
         return;
     }
     if flag == 0 {
-        out::say(b"  discarded, ");
+        out::say(rt, b"  discarded, ");
         return;
     }
-    out::say(b"  MISSING,   ");
+    out::say(rt, b"  MISSING,   ");
 }
 
-fn packet(log: &[u8], from: usize, to: usize) {
+fn packet(rt: &impl Print, log: &[u8], from: usize, to: usize) {
     if to > log.len() {
         return;
     }
     if from > to {
         return;
     }
-    out::bytes(&log[from..to]);
+    out::bytes(rt, &log[from..to]);
 }
 
-fn line(at: UnixTime, log: &[u8], it: Item) {
-    clock::show(b"    ", at);
-    fate(it.flag);
-    answers::request(it.id);
-    out::number(b", flag ", it.flag as u64);
-    out::say(b": ");
-    packet(log, it.from, it.to);
-    out::say(b"\n");
+fn line(rt: &impl Print, at: UnixTime, log: &[u8], it: Item) {
+    clock::show(rt, b"    ", at);
+    fate(rt, it.flag);
+    answers::request(rt, it.id);
+    out::number(rt, b", flag ", it.flag as u64);
+    out::say(rt, b": ");
+    packet(rt, log, it.from, it.to);
+    out::say(rt, b"\n");
 }
 
-fn one(t: Totals, at: UnixTime, log: &[u8], f: Found) -> Totals
+fn one(rt: &impl Print, t: Totals, at: UnixTime, log: &[u8], f: Found) -> Totals
     ensures { result ≡ tally_found f t }
 {
     match f {
         Found::Record(it) => {
-            line(at, log, it);
+            line(rt, at, log, it);
             t.with(it.flag)
         }
         Found::Outside => {
-            out::say(b"    a record lies outside the log\n");
+            out::say(rt, b"    a record lies outside the log\n");
             t
         }
     }
 }
 
 // Writes every record, and counts it.
-pub fn all(start: Totals, at: UnixTime, log: &[u8]) -> Totals
+pub fn all(rt: &impl Print, start: Totals, at: UnixTime, log: &[u8]) -> Totals
     ensures { result ≡ tally_log log.now start }
 {
     let n = log_reader::count(log);
     let mut t = start;
     let mut i: usize = 0;
     while i < n {
-        t = one(t, at, log, log_reader::record_at(log, i));
+        t = one(rt, t, at, log, log_reader::record_at(log, i));
         i += 1;
     }
     t

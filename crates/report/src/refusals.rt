@@ -5,77 +5,85 @@ use slots::{StoreIdError, StoreRefusal};
 use text::out;
 use time::{Margin, UnixTime};
 
-fn id_words(e: StoreIdError) {
+fn id_words(rt: &impl Print, e: StoreIdError) {
     match e {
-        StoreIdError::InvalidSubpool(k) => out::number(b"there is no subpool ", k as u64),
-        StoreIdError::InvalidPacketIdx(i) => out::number(b"its subpool has no slot ", i as u64),
+        StoreIdError::InvalidSubpool(k) => out::number(rt, b"there is no subpool ", k as u64),
+        StoreIdError::InvalidPacketIdx(i) => out::number(rt, b"its subpool has no slot ", i as u64),
     }
 }
 
-fn store_words(e: StoreRefusal) {
+fn store_words(rt: &impl Print, e: StoreRefusal) {
     match e {
-        StoreRefusal::BadSetup => out::say(b"a size of the setup is out of bounds"),
-        StoreRefusal::BadBuffers => out::say(b"a lent table is too short"),
-        StoreRefusal::StateDamaged => out::say(b"the record or a table is damaged"),
-        StoreRefusal::DataTooLarge(n) => out::number(b"no slot holds its bytes, ", n as u64),
+        StoreRefusal::BadSetup => out::say(rt, b"a size of the setup is out of bounds"),
+        StoreRefusal::BadBuffers => out::say(rt, b"a lent table is too short"),
+        StoreRefusal::StateDamaged => out::say(rt, b"the record or a table is damaged"),
+        StoreRefusal::DataTooLarge(n) => out::number(rt, b"no slot holds its bytes, ", n as u64),
         StoreRefusal::StoreFull(k) => out::number(
+            rt,
             b"the store has no free slot for it in subpool ",
             k as u64,
         ),
-        StoreRefusal::InvalidStoreId(b) => id_words(b),
-        StoreRefusal::DataDoesNotExist(a) => out::number(b"there is no packet at address ", a),
+        StoreRefusal::InvalidStoreId(b) => id_words(rt, b),
+        StoreRefusal::DataDoesNotExist(a) => out::number(rt, b"there is no packet at address ", a),
         StoreRefusal::BufferTooSmall { found, expected } => {
-            out::number(b"the buffer has bytes ", found as u64);
-            out::number(b" and the packet ", expected as u64);
+            out::number(rt, b"the buffer has bytes ", found as u64);
+            out::number(rt, b" and the packet ", expected as u64);
         }
     }
 }
 
-fn late(now: UnixTime, m: Margin, release: UnixTime) {
-    clock::show(b"its release ", release);
-    clock::show(b" lies before the clock ", now);
-    out::number(b" and the margin, seconds ", m.secs);
+fn late(rt: &impl Print, now: UnixTime, m: Margin, release: UnixTime) {
+    clock::show(rt, b"its release ", release);
+    clock::show(rt, b" lies before the clock ", now);
+    out::number(rt, b" and the margin, seconds ", m.secs);
 }
 
-fn schedule_words(e: ScheduleRefusal) {
+fn schedule_words(rt: &impl Print, e: ScheduleRefusal) {
     match e {
-        ScheduleRefusal::Store(s) => store_words(s),
-        ScheduleRefusal::BadTime => out::say(b"a time or margin is out of range"),
-        ScheduleRefusal::WrongService(n) => out::number(b"its service is not 11 but ", n as u64),
+        ScheduleRefusal::Store(s) => store_words(rt, s),
+        ScheduleRefusal::BadTime => out::say(rt, b"a time or margin is out of range"),
+        ScheduleRefusal::WrongService(n) => out::number(
+            rt,
+            b"its service is not 11 but ",
+            n as u64,
+        ),
         ScheduleRefusal::WrongSubservice(n) => out::number(
+            rt,
             b"its subservice is not 4 but ",
             n as u64,
         ),
-        ScheduleRefusal::TcDataEmpty => out::say(b"it has no user data"),
-        ScheduleRefusal::BadTimestamp => out::say(b"its time stamp is unreadable"),
-        ScheduleRefusal::TcUnreadable => out::say(b"the packet is unreadable"),
+        ScheduleRefusal::TcDataEmpty => out::say(rt, b"it has no user data"),
+        ScheduleRefusal::BadTimestamp => out::say(rt, b"its time stamp is unreadable"),
+        ScheduleRefusal::TcUnreadable => out::say(rt, b"the packet is unreadable"),
         ScheduleRefusal::NestedScheduledTc => out::say(
+            rt,
             b"the command in it is again one to be scheduled",
         ),
         ScheduleRefusal::ReleaseTimeInTimeMargin {
             clock: now,
             margin: m,
             release,
-        } => late(now, m, release),
-        ScheduleRefusal::ScheduleFull => out::say(b"the schedule is full"),
-        ScheduleRefusal::ReversedWindow => out::say(b"the window ends before it starts"),
+        } => late(rt, now, m, release),
+        ScheduleRefusal::ScheduleFull => out::say(rt, b"the schedule is full"),
+        ScheduleRefusal::ReversedWindow => out::say(rt, b"the window ends before it starts"),
         ScheduleRefusal::LogTooSmall(n) => out::number(
+            rt,
             b"the log has no room, bytes needed ",
             n as u64,
         ),
     }
 }
 
-pub fn of_store(e: StoreRefusal) {
-    out::number(b": refused (", refusal_numbers::of_store(e));
-    out::say(b"), ");
-    store_words(e);
-    out::say(b"\n");
+pub fn of_store(rt: &impl Print, e: StoreRefusal) {
+    out::number(rt, b": refused (", refusal_numbers::of_store(e));
+    out::say(rt, b"), ");
+    store_words(rt, e);
+    out::say(rt, b"\n");
 }
 
-pub fn of_schedule(e: ScheduleRefusal) {
-    out::number(b": refused (", refusal_numbers::of_schedule(e));
-    out::say(b"), ");
-    schedule_words(e);
-    out::say(b"\n");
+pub fn of_schedule(rt: &impl Print, e: ScheduleRefusal) {
+    out::number(rt, b": refused (", refusal_numbers::of_schedule(e));
+    out::say(rt, b"), ");
+    schedule_words(rt, e);
+    out::say(rt, b"\n");
 }

@@ -3,11 +3,11 @@ use shift_totals::Totals;
 use text::out;
 
 // The report's last lines.
-pub fn show(pending: usize, t: Totals) {
-    out::number(b"  pending    ", pending as u64);
-    out::number(b"\n  released   ", t.released);
-    out::number(b", of these behind a missing packet ", t.behind);
-    out::number(b"\n  discarded  ", t.discarded);
-    out::number(b"\n  missing    ", t.missing);
-    out::say(b"\n");
+pub fn show(rt: &impl Print, pending: usize, t: Totals) {
+    out::number(rt, b"  pending    ", pending as u64);
+    out::number(rt, b"\n  released   ", t.released);
+    out::number(rt, b", of these behind a missing packet ", t.behind);
+    out::number(rt, b"\n  discarded  ", t.discarded);
+    out::number(rt, b"\n  missing    ", t.missing);
+    out::say(rt, b"\n");
 }

@@ -8,6 +8,7 @@ use windows::TimeWindow;
 
 // Does a call on as much of the tables as is lent, writes its answer, and gives back the record.
 pub fn on_lent(
+    rt: &impl Print,
     b: Lent,
     k: usize,
     text: &[u8],
@@ -18,8 +19,9 @@ pub fn on_lent(
     let s = line::least(b.room, store.len());
     let l = line::least(b.lens, lens.len());
     let r = line::least(b.rows, rows.len());
-    out::say(b" => ");
+    out::say(rt, b" => ");
     run(
+        rt,
         b,
         k,
         text,
@@ -30,6 +32,7 @@ pub fn on_lent(
 }
 
 fn run(
+    rt: &impl Print,
     b: Lent,
     k: usize,
     text: &[u8],
@@ -38,56 +41,75 @@ fn run(
     rows: &mut [u64],
 ) -> Record {
     if k > line::WRAPPED {
-        return deleting::run(b, k, text, store, lens, rows);
+        return deleting::run(rt, b, k, text, store, lens, rows);
     }
     if k > line::TAKE {
-        return inserting::run(b, k, text, store, lens, rows);
+        return inserting::run(rt, b, k, text, store, lens, rows);
     }
-    on_rows(b, k, text, store, lens, rows)
+    on_rows(rt, b, k, text, store, lens, rows)
 }
 
 // The calls to which store and lengths are lent to be read.
-fn on_rows(b: Lent, k: usize, text: &[u8], store: &[u8], lens: &[u16], rows: &mut [u64]) -> Record {
+fn on_rows(
+    rt: &impl Print,
+    b: Lent,
+    k: usize,
+    text: &[u8],
+    store: &[u8],
+    lens: &[u16],
+    rows: &mut [u64],
+) -> Record {
     if k == line::STORED {
-        return stored(b, text, store, lens, rows);
+        return stored(rt, b, text, store, lens, rows);
     }
     if k == line::TAKE {
         let id = line::number(text, 1);
-        return taken(by_id_public::delete_by_request_id(b.setup, b.rec, store, lens, rows, id));
+        return taken(
+            rt,
+            by_id_public::delete_by_request_id(b.setup, b.rec, store, lens, rows, id),
+        );
     }
     if k > line::DISABLE {
-        ask(b, k, text, store, lens, rows);
+        ask(rt, b, k, text, store, lens, rows);
         return b.rec;
     }
-    change(set(b.rec, k, text))
+    change(rt, set(b.rec, k, text))
 }
 
-fn stored(b: Lent, text: &[u8], store: &[u8], lens: &[u16], rows: &mut [u64]) -> Record {
+fn stored(
+    rt: &impl Print,
+    b: Lent,
+    text: &[u8],
+    store: &[u8],
+    lens: &[u16],
+    rows: &mut [u64],
+) -> Record {
     let t = line::time(text, 1);
     let id = line::number(text, 3);
     let addr = line::number(text, 4);
     let c = insertions_public::insert_unwrapped_and_stored_tc(
         b.setup, b.rec, store, lens, rows, t, id, addr,
     );
-    change(c)
+    change(rt, c)
 }
 
-fn taken(t: Taken) -> Record {
+fn taken(rt: &impl Print, t: Taken) -> Record {
     let a = t.answer;
-    shown::taken(a);
+    shown::taken(rt, a);
     t.next
 }
 
 // The calls that change nothing.
-fn ask(b: Lent, k: usize, text: &[u8], store: &[u8], lens: &[u16], rows: &[u64]) {
+fn ask(rt: &impl Print, b: Lent, k: usize, text: &[u8], store: &[u8], lens: &[u16], rows: &[u64]) {
     if k == line::COUNT {
-        shown::counted(counting::count(b.setup, b.rec, store, lens, rows));
+        shown::counted(rt, counting::count(b.setup, b.rec, store, lens, rows));
         return;
     }
     let w = window(text);
-    shown::retrieved(deletions_public::retrieve_by_time_filter(
-        b.setup, b.rec, store, lens, rows, w,
-    ));
+    shown::retrieved(
+        rt,
+        deletions_public::retrieve_by_time_filter(b.setup, b.rec, store, lens, rows, w),
+    );
 }
 
 // all; fromto and two times; from or to and a time.
@@ -117,8 +139,8 @@ fn set(rec: Record, k: usize, text: &[u8]) -> Changed {
     in_place::disable(rec)
 }
 
-pub fn change(c: Changed) -> Record {
+pub fn change(rt: &impl Print, c: Changed) -> Record {
     let a = c.answer;
-    shown::done(a);
+    shown::done(rt, a);
     c.next
 }

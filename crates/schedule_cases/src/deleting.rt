@@ -5,6 +5,7 @@ use lent::Lent;
 use record::Record;
 
 pub fn run(
+    rt: &impl Print,
     b: Lent,
     k: usize,
     text: &[u8],
@@ -13,11 +14,11 @@ pub fn run(
     rows: &mut [u64],
 ) -> Record {
     if k == line::FREE {
-        return freed(b, text, store, lens, rows);
+        return freed(rt, b, text, store, lens, rows);
     }
     let c = clear(b, k, text, store, lens, rows);
     let a = c.answer;
-    shown::cleared(a);
+    shown::cleared(rt, a);
     c.next
 }
 
@@ -36,10 +37,17 @@ fn clear(
     deletions_public::delete_by_time_filter(b.setup, b.rec, store, lens, rows, w)
 }
 
-fn freed(b: Lent, text: &[u8], store: &mut [u8], lens: &mut [u16], rows: &mut [u64]) -> Record {
+fn freed(
+    rt: &impl Print,
+    b: Lent,
+    text: &[u8],
+    store: &mut [u8],
+    lens: &mut [u16],
+    rows: &mut [u64],
+) -> Record {
     let id = line::number(text, 1);
     let f = by_id_public::delete_by_request_id_and_from_pool(b.setup, b.rec, store, lens, rows, id);
     let a = f.answer;
-    shown::freed(a);
+    shown::freed(rt, a);
     f.next
 }

@@ -5,6 +5,7 @@ use record::Record;
 use schedule::Setup;
 
 pub fn edit(
+    rt: &impl Print,
     b: Lent,
     k: usize,
     text: &[u8],
@@ -13,7 +14,7 @@ pub fn edit(
     rows: &mut [u64; 20],
 ) -> Lent {
     if k == line::SHOW {
-        show(b, text, store, lens, rows);
+        show(rt, b, text, store, lens, rows);
         return b;
     }
     damage(b, k, text, store, lens, rows);
@@ -40,19 +41,19 @@ fn damage(
     }
 }
 
-fn show(b: Lent, text: &[u8], store: &[u8], lens: &[u16], rows: &[u64]) {
+fn show(rt: &impl Print, b: Lent, text: &[u8], store: &[u8], lens: &[u16], rows: &[u64]) {
     let k = line::which(text, 1, b"record store lengths rows");
     if k == 0 {
-        state::record(b.rec);
+        state::record(rt, b.rec);
     }
     if k == 1 {
-        state::bytes(store);
+        state::bytes(rt, store);
     }
     if k == 2 {
-        state::lens(lens);
+        state::lens(rt, lens);
     }
     if k == 3 {
-        state::rows(rows);
+        state::rows(rt, rows);
     }
 }
 

@@ -5,6 +5,7 @@ use record::Record;
 use storing::Inserted;
 
 pub fn run(
+    rt: &impl Print,
     b: Lent,
     k: usize,
     text: &[u8],
@@ -13,35 +14,65 @@ pub fn run(
     rows: &mut [u64],
 ) -> Record {
     if k == line::START {
-        return start(b, text, store, lens, rows);
+        return start(rt, b, text, store, lens, rows);
     }
     if k == line::WRAPPED {
-        return wrapped(b, text, store, lens, rows);
+        return wrapped(rt, b, text, store, lens, rows);
     }
-    unwrapped(b, text, store, lens, rows)
+    unwrapped(rt, b, text, store, lens, rows)
 }
 
-fn start(b: Lent, text: &[u8], store: &mut [u8], lens: &mut [u16], rows: &mut [u64]) -> Record {
+fn start(
+    rt: &impl Print,
+    b: Lent,
+    text: &[u8],
+    store: &mut [u8],
+    lens: &mut [u16],
+    rows: &mut [u64],
+) -> Record {
     let t = line::time(text, 1);
     let m = line::margin(text, 3);
-    calls::change(starting::fresh_start(b.setup, b.rec, store, lens, rows, t, m))
+    calls::change(
+        rt,
+        starting::fresh_start(b.setup, b.rec, store, lens, rows, t, m),
+    )
 }
 
-fn unwrapped(b: Lent, text: &[u8], store: &mut [u8], lens: &mut [u16], rows: &mut [u64]) -> Record {
+fn unwrapped(
+    rt: &impl Print,
+    b: Lent,
+    text: &[u8],
+    store: &mut [u8],
+    lens: &mut [u16],
+    rows: &mut [u64],
+) -> Record {
     let t = line::time(text, 1);
     let mut tc = [0u8; 64];
     let n = line::bytes(text, 3, &mut tc);
-    inserted(insertions_public::insert_unwrapped_tc(b.setup, b.rec, store, lens, rows, t, &tc[..n]))
+    inserted(
+        rt,
+        insertions_public::insert_unwrapped_tc(b.setup, b.rec, store, lens, rows, t, &tc[..n]),
+    )
 }
 
-fn wrapped(b: Lent, text: &[u8], store: &mut [u8], lens: &mut [u16], rows: &mut [u64]) -> Record {
+fn wrapped(
+    rt: &impl Print,
+    b: Lent,
+    text: &[u8],
+    store: &mut [u8],
+    lens: &mut [u16],
+    rows: &mut [u64],
+) -> Record {
     let mut outer = [0u8; 64];
     let n = line::bytes(text, 1, &mut outer);
-    inserted(insertions_public::insert_wrapped_tc(b.setup, b.rec, store, lens, rows, &outer[..n]))
+    inserted(
+        rt,
+        insertions_public::insert_wrapped_tc(b.setup, b.rec, store, lens, rows, &outer[..n]),
+    )
 }
 
-fn inserted(i: Inserted) -> Record {
+fn inserted(rt: &impl Print, i: Inserted) -> Record {
     let a = i.answer;
-    shown::inserted(a);
+    shown::inserted(rt, a);
     i.next
 }

@@ -9,16 +9,16 @@ mod line;
 mod state;
 
 use lent::Lent;
-use text::out;
+use text::{input, out};
 
-fn main() {
-    let mut text = io::large_buffer();
-    let n = io::read_full(libc::STDIN_FILENO, &mut text);
-    all(&text[..n]);
+fn main(rt: HostRuntime) {
+    let mut text = input::large_buffer();
+    let n = input::read_full(&mut rt.stdin(), &mut text);
+    all(&rt, &text[..n]);
 }
 
 // 112 bytes, 5 lengths and 4 rows are the setup's; what lies beyond them is never written.
-fn all(text: &[u8]) {
+fn all(rt: &impl Print, text: &[u8]) {
     let mut store = [238u8; 120];
     let mut lens = [60000u16; 7];
     let mut rows = [77u64; 20];
@@ -27,12 +27,13 @@ fn all(text: &[u8]) {
     while at < text.len() {
         let end = line::end(text, at, b'\n');
         let next = line::next(text, end);
-        b = one(b, &text[at..end], &mut store, &mut lens, &mut rows);
+        b = one(rt, b, &text[at..end], &mut store, &mut lens, &mut rows);
         at = next;
     }
 }
 
 fn one(
+    rt: &impl Print,
     b: Lent,
     text: &[u8],
     store: &mut [u8; 120],
@@ -40,16 +41,17 @@ fn one(
     rows: &mut [u64; 20],
 ) -> Lent {
     let k = line::code(text);
-    out::say(text);
+    out::say(rt, text);
     if k < line::CALLS {
-        return called(b, k, text, store, lens, rows);
+        return called(rt, b, k, text, store, lens, rows);
     }
-    let next = edits::edit(b, k, text, store, lens, rows);
-    out::say(b"\n");
+    let next = edits::edit(rt, b, k, text, store, lens, rows);
+    out::say(rt, b"\n");
     next
 }
 
 fn called(
+    rt: &impl Print,
     b: Lent,
     k: usize,
     text: &[u8],
@@ -60,8 +62,12 @@ fn called(
     let s = *store;
     let l = *lens;
     let r = *rows;
-    let rec = calls::on_lent(b, k, text, store, lens, rows);
-    let same = state::record_as(b.rec, rec);
-    state::unchanged(same, lent::same_tables(&s, store, &l, lens, &r, rows));
+    let rec = calls::on_lent(rt, b, k, text, store, lens, rows);
+    let same = state::record_as(rt, b.rec, rec);
+    state::unchanged(
+        rt,
+        same,
+        lent::same_tables(rt, &s, store, &l, lens, &r, rows),
+    );
     lent::with_record(b, rec)
 }

@@ -4,58 +4,58 @@ use slots::{StoreIdError, StoreRefusal};
 use text::out;
 use time::{Margin, UnixTime};
 
-fn value(n: u64) {
-    out::number(b" ", n);
+fn value(rt: &impl Print, n: u64) {
+    out::number(rt, b" ", n);
 }
 
-fn late(clock: UnixTime, m: Margin, release: UnixTime) {
-    out::time(b" clock ", clock);
-    out::margin(b" margin ", m);
-    out::time(b" release ", release);
+fn late(rt: &impl Print, clock: UnixTime, m: Margin, release: UnixTime) {
+    out::time(rt, b" clock ", clock);
+    out::margin(rt, b" margin ", m);
+    out::time(rt, b" release ", release);
 }
 
-fn id_value(e: StoreIdError) {
+fn id_value(rt: &impl Print, e: StoreIdError) {
     match e {
-        StoreIdError::InvalidSubpool(k) => value(k as u64),
-        StoreIdError::InvalidPacketIdx(i) => value(i as u64),
+        StoreIdError::InvalidSubpool(k) => value(rt, k as u64),
+        StoreIdError::InvalidPacketIdx(i) => value(rt, i as u64),
     }
 }
 
-fn store_values(e: StoreRefusal) {
+fn store_values(rt: &impl Print, e: StoreRefusal) {
     match e {
-        StoreRefusal::DataTooLarge(n) => value(n as u64),
-        StoreRefusal::StoreFull(k) => value(k as u64),
-        StoreRefusal::InvalidStoreId(b) => id_value(b),
-        StoreRefusal::DataDoesNotExist(a) => value(a),
+        StoreRefusal::DataTooLarge(n) => value(rt, n as u64),
+        StoreRefusal::StoreFull(k) => value(rt, k as u64),
+        StoreRefusal::InvalidStoreId(b) => id_value(rt, b),
+        StoreRefusal::DataDoesNotExist(a) => value(rt, a),
         StoreRefusal::BufferTooSmall { found, expected } => {
-            value(found as u64);
-            value(expected as u64);
+            value(rt, found as u64);
+            value(rt, expected as u64);
         }
         _ => {}
     }
 }
 
-fn schedule_values(e: ScheduleRefusal) {
+fn schedule_values(rt: &impl Print, e: ScheduleRefusal) {
     match e {
-        ScheduleRefusal::Store(s) => store_values(s),
-        ScheduleRefusal::WrongService(n) => value(n as u64),
-        ScheduleRefusal::WrongSubservice(n) => value(n as u64),
+        ScheduleRefusal::Store(s) => store_values(rt, s),
+        ScheduleRefusal::WrongService(n) => value(rt, n as u64),
+        ScheduleRefusal::WrongSubservice(n) => value(rt, n as u64),
         ScheduleRefusal::ReleaseTimeInTimeMargin {
             clock,
             margin: m,
             release,
-        } => late(clock, m, release),
-        ScheduleRefusal::LogTooSmall(n) => value(n as u64),
+        } => late(rt, clock, m, release),
+        ScheduleRefusal::LogTooSmall(n) => value(rt, n as u64),
         _ => {}
     }
 }
 
-pub fn of_store(e: StoreRefusal) {
-    refusal_names::name(refusal_numbers::of_store(e));
-    store_values(e);
+pub fn of_store(rt: &impl Print, e: StoreRefusal) {
+    refusal_names::name(rt, refusal_numbers::of_store(e));
+    store_values(rt, e);
 }
 
-pub fn of_schedule(e: ScheduleRefusal) {
-    refusal_names::name(refusal_numbers::of_schedule(e));
-    schedule_values(e);
+pub fn of_schedule(rt: &impl Print, e: ScheduleRefusal) {
+    refusal_names::name(rt, refusal_numbers::of_schedule(e));
+    schedule_values(rt, e);
 }

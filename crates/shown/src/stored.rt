@@ -4,49 +4,49 @@ use lookup::{Length, Presence};
 use store::{Added, Deleted, Started, Verdict};
 use text::out;
 
-pub fn verdict(a: Verdict) {
+pub fn verdict(rt: &impl Print, a: Verdict) {
     match a {
-        Verdict::Fine => out::say(b"0 Fine"),
-        Verdict::Refused(e) => refusals::of_store(e),
+        Verdict::Fine => out::say(rt, b"0 Fine"),
+        Verdict::Refused(e) => refusals::of_store(rt, e),
     }
 }
 
-pub fn started(a: Started) {
+pub fn started(rt: &impl Print, a: Started) {
     match a {
-        Started::Done => out::say(b"0 Done"),
-        Started::Refused(e) => refusals::of_store(e),
+        Started::Done => out::say(rt, b"0 Done"),
+        Started::Refused(e) => refusals::of_store(rt, e),
     }
 }
 
 // The address of what was added.
-pub fn added(a: Added) {
+pub fn added(rt: &impl Print, a: Added) {
     match a {
-        Added::At(addr) => out::number(b"0 At ", addr),
-        Added::Refused(e) => refusals::of_store(e),
+        Added::At(addr) => out::number(rt, b"0 At ", addr),
+        Added::Refused(e) => refusals::of_store(rt, e),
     }
 }
 
-pub fn length(a: Length) {
+pub fn length(rt: &impl Print, a: Length) {
     match a {
-        Length::Of(n) => out::number(b"0 Of ", n as u64),
-        Length::Refused(e) => refusals::of_store(e),
+        Length::Of(n) => out::number(rt, b"0 Of ", n as u64),
+        Length::Refused(e) => refusals::of_store(rt, e),
     }
 }
 
-pub fn presence(a: Presence) {
+pub fn presence(rt: &impl Print, a: Presence) {
     match a {
         Presence::Is(b) => if b {
-            out::say(b"0 Is 1")
+            out::say(rt, b"0 Is 1")
         } else {
-            out::say(b"0 Is 0")
+            out::say(rt, b"0 Is 0")
         },
-        Presence::Refused(e) => refusals::of_store(e),
+        Presence::Refused(e) => refusals::of_store(rt, e),
     }
 }
 
-pub fn deleted(a: Deleted) {
+pub fn deleted(rt: &impl Print, a: Deleted) {
     match a {
-        Deleted::Done => out::say(b"0 Done"),
-        Deleted::Refused(e) => refusals::of_store(e),
+        Deleted::Done => out::say(rt, b"0 Done"),
+        Deleted::Refused(e) => refusals::of_store(rt, e),
     }
 }

@@ -7,6 +7,7 @@ use store::Added;
 use text::{line, out};
 
 pub fn run(
+    rt: &impl Print,
     setup: Setup,
     k: usize,
     text: &[u8],
@@ -15,11 +16,11 @@ pub fn run(
     buf: &mut [u8],
 ) {
     if k == command::START {
-        start(setup, store, lens);
+        start(rt, setup, store, lens);
         return;
     }
     if k == command::ADD {
-        add(setup, text, store, lens);
+        add(rt, setup, text, store, lens);
         return;
     }
     if k == command::FILL {
@@ -27,15 +28,15 @@ pub fn run(
         return;
     }
     if k == command::DELETE {
-        delete(setup, text, store, lens);
+        delete(rt, setup, text, store, lens);
         return;
     }
     if k == command::MODIFY {
-        modify(setup, text, store, lens);
+        modify(rt, setup, text, store, lens);
         return;
     }
     if k == command::MODIFY_WITH {
-        modify_with(setup, text, store, lens);
+        modify_with(rt, setup, text, store, lens);
         return;
     }
     damage(k, text, store, lens, buf);
@@ -57,29 +58,32 @@ fn damage(k: usize, text: &[u8], store: &mut [u8], lens: &mut [u16], buf: &mut [
 }
 
 // A fresh start, and the judge.
-fn start(setup: Setup, store: &mut [u8], lens: &mut [u16]) {
-    out::say(b": fresh ");
-    shown::started(store_public::fresh(setup, store, lens));
-    out::say(b", judge ");
-    shown::verdict(store_public::judge(setup, store.len(), lens));
+fn start(rt: &impl Print, setup: Setup, store: &mut [u8], lens: &mut [u16]) {
+    out::say(rt, b": fresh ");
+    shown::started(rt, store_public::fresh(setup, store, lens));
+    out::say(rt, b", judge ");
+    shown::verdict(rt, store_public::judge(setup, store.len(), lens));
 }
 
 // A packet of given bytes; or of a number of bytes, all of one value.
-fn add(setup: Setup, text: &[u8], store: &mut [u8], lens: &mut [u16]) {
-    out::say(b": ");
+fn add(rt: &impl Print, setup: Setup, text: &[u8], store: &mut [u8], lens: &mut [u16]) {
+    out::say(rt, b": ");
     if line::which(text, 1, b"bytes") == 0 {
         let mut packet = [0u8; 64];
         let n = line::bytes(text, 2, &mut packet);
-        shown::added(store_public::add(setup, store, lens, &packet[..n]));
+        shown::added(rt, store_public::add(setup, store, lens, &packet[..n]));
         return;
     }
-    shown::added(put(
-        setup,
-        store,
-        lens,
-        line::part(text, 1, 4096),
-        line::byte(text, 3),
-    ));
+    shown::added(
+        rt,
+        put(
+            setup,
+            store,
+            lens,
+            line::part(text, 1, 4096),
+            line::byte(text, 3),
+        ),
+    );
 }
 
 fn put(setup: Setup, store: &mut [u8], lens: &mut [u16], n: usize, v: u8) -> Added
@@ -100,20 +104,23 @@ fn fill(setup: Setup, text: &[u8], store: &mut [u8], lens: &mut [u16]) {
     }
 }
 
-fn delete(setup: Setup, text: &[u8], store: &mut [u8], lens: &mut [u16]) {
-    out::say(b": ");
-    shown::deleted(store_public::delete(setup, store, lens, line::number(text, 1)));
+fn delete(rt: &impl Print, setup: Setup, text: &[u8], store: &mut [u8], lens: &mut [u16]) {
+    out::say(rt, b": ");
+    shown::deleted(
+        rt,
+        store_public::delete(setup, store, lens, line::number(text, 1)),
+    );
 }
 
 // Given bytes are written through the part that is lent, as many as it has.
-fn modify(setup: Setup, text: &[u8], store: &mut [u8], lens: &[u16]) {
+fn modify(rt: &impl Print, setup: Setup, text: &[u8], store: &mut [u8], lens: &[u16]) {
     let addr = line::number(text, 1);
     let mut given = [0u8; 64];
     let n = line::bytes(text, 3, &mut given);
-    out::say(b": ");
-    shown::length(store_public::modify(setup, store, lens, addr));
+    out::say(rt, b": ");
+    shown::length(rt, store_public::modify(setup, store, lens, addr));
     let part = store_public::modify_part(setup, store, lens, addr);
-    out::number(b", lent ", part.len() as u64);
+    out::number(rt, b", lent ", part.len() as u64);
     write(part, &given[..n]);
 }
 
@@ -130,12 +137,15 @@ fn write(part: &mut [u8], given: &[u8]) {
 }
 
 // The same in one call.
-fn modify_with(setup: Setup, text: &[u8], store: &mut [u8], lens: &[u16]) {
+fn modify_with(rt: &impl Print, setup: Setup, text: &[u8], store: &mut [u8], lens: &[u16]) {
     let addr = line::number(text, 1);
     let mut given = [0u8; 64];
     let n = line::bytes(text, 3, &mut given);
-    out::say(b": ");
-    shown::length(modifying::modify_with(setup, store, lens, addr, &given[..n]));
+    out::say(rt, b": ");
+    shown::length(
+        rt,
+        modifying::modify_with(setup, store, lens, addr, &given[..n]),
+    );
 }
 
 fn set(v: u8, part: &mut [u8]) {

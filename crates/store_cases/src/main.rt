@@ -8,16 +8,16 @@ mod given;
 mod shows;
 
 use given::Given;
-use text::{line, out};
+use text::{input, line, out};
 
-fn main() {
-    let mut text = io::large_buffer();
-    let n = io::read_full(libc::STDIN_FILENO, &mut text);
-    all(&text[..n]);
+fn main(rt: HostRuntime) {
+    let mut text = input::large_buffer();
+    let n = input::read_full(&mut rt.stdin(), &mut text);
+    all(&rt, &text[..n]);
 }
 
 // Room for the largest store and the largest table.
-fn all(text: &[u8]) {
+fn all(rt: &impl Print, text: &[u8]) {
     let mut store = given::room();
     let mut lens = [65535u16; 2048];
     let mut buf = [0u8; 64];
@@ -26,28 +26,43 @@ fn all(text: &[u8]) {
     while at < text.len() {
         let end = line::end(text, at, b'\n');
         let next = line::next(text, end);
-        b = one(b, &text[at..end], &mut store, &mut lens, &mut buf);
+        b = one(rt, b, &text[at..end], &mut store, &mut lens, &mut buf);
         at = next;
     }
 }
 
-fn one(b: Given, text: &[u8], store: &mut [u8], lens: &mut [u16], buf: &mut [u8]) -> Given {
+fn one(
+    rt: &impl Print,
+    b: Given,
+    text: &[u8],
+    store: &mut [u8],
+    lens: &mut [u16],
+    buf: &mut [u8],
+) -> Given {
     let k = command::of(text);
     let next = given::by(b, k, text);
-    out::say(text);
-    done(next, k, text, store, lens, buf);
-    out::say(b"\n");
+    out::say(rt, text);
+    done(rt, next, k, text, store, lens, buf);
+    out::say(rt, b"\n");
     next
 }
 
 // On as much of the store and the lengths as is lent.
-fn done(b: Given, k: usize, text: &[u8], store: &mut [u8], lens: &mut [u16], buf: &mut [u8]) {
+fn done(
+    rt: &impl Print,
+    b: Given,
+    k: usize,
+    text: &[u8],
+    store: &mut [u8],
+    lens: &mut [u16],
+    buf: &mut [u8],
+) {
     let s = line::least(b.room, store.len());
     let l = line::least(b.lens, lens.len());
     let setup = b.setup;
     if k < command::ASKING {
-        calls::run(setup, k, text, &mut store[0..s], &mut lens[0..l], buf);
+        calls::run(rt, setup, k, text, &mut store[0..s], &mut lens[0..l], buf);
         return;
     }
-    shows::run(setup, k, text, &store[0..s], &lens[0..l], buf);
+    shows::run(rt, setup, k, text, &store[0..s], &lens[0..l], buf);
 }

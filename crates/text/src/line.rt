@@ -1,6 +1,6 @@
 // A line: where it and its words end, which word is which, and the numbers, times and bytes that the words are.
 ghost use Rattle.std.specs.Prelude.{◌+◌, ◌-◌, ◌≤◌, length};
-ghost use Rattle.io.specs.Counts.{IsPrefixLen};
+ghost use Rattle.text.specs.Counts.{IsPrefixLen};
 
 use time::{Margin, UnixTime};
 

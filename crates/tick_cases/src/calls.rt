@@ -16,6 +16,7 @@ fn first(text: &[u8]) -> u8 {
 }
 
 pub fn one(
+    rt: &impl Print,
     b: Lent,
     text: &[u8],
     store: &mut [u8; 1048576],
@@ -23,13 +24,14 @@ pub fn one(
     rows: &mut [u64; 16388],
 ) -> Lent {
     let k = first(text);
-    out::say(text);
-    let next = done(b, k, text, store, lens, rows);
-    out::say(b"\n");
+    out::say(rt, text);
+    let next = done(rt, b, k, text, store, lens, rows);
+    out::say(rt, b"\n");
     next
 }
 
 fn done(
+    rt: &impl Print,
     b: Lent,
     k: u8,
     text: &[u8],
@@ -38,17 +40,18 @@ fn done(
     rows: &mut [u64; 16388],
 ) -> Lent {
     if k == b't' {
-        return ticked::run(b, text, store, lens, rows);
+        return ticked::run(rt, b, text, store, lens, rows);
     }
     if k > b'Z' {
         return lent::with_record(b, change(b.setup, b.rec, k, text, store, lens, rows));
     }
-    table(k, text, store, lens, rows);
+    table(rt, k, text, store, lens, rows);
     given::by(b, k, text)
 }
 
 // A length, a word of a row; and a view of all.
 fn table(
+    rt: &impl Print,
     k: u8,
     text: &[u8],
     store: &[u8; 1048576],
@@ -64,7 +67,7 @@ fn table(
         return;
     }
     if k == b'V' {
-        state::view(text, store, lens, rows);
+        state::view(rt, text, store, lens, rows);
     }
 }
 

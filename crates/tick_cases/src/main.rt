@@ -6,16 +6,16 @@ mod given;
 mod state;
 mod ticked;
 
-use text::line;
+use text::{input, line};
 
-fn main() {
-    let mut text = io::large_buffer();
-    let n = io::read_full(libc::STDIN_FILENO, &mut text);
-    all(&text[..n]);
+fn main(rt: HostRuntime) {
+    let mut text = input::large_buffer();
+    let n = input::read_full(&mut rt.stdin(), &mut text);
+    all(&rt, &text[..n]);
 }
 
 // Room for the largest store, 256 slots, 4,096 entries, and some beyond each but the store.
-fn all(text: &[u8]) {
+fn all(rt: &impl Print, text: &[u8]) {
     let mut store = state::room();
     let mut lens = [60000u16; 258];
     let mut rows = [77u64; 16388];
@@ -24,7 +24,7 @@ fn all(text: &[u8]) {
     while at < text.len() {
         let end = line::end(text, at, b'\n');
         let next = line::next(text, end);
-        b = calls::one(b, &text[at..end], &mut store, &mut lens, &mut rows);
+        b = calls::one(rt, b, &text[at..end], &mut store, &mut lens, &mut rows);
         at = next;
     }
 }

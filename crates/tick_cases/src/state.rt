@@ -24,15 +24,15 @@ pub fn count_up(part: &mut [u8], v: u64) {
 }
 
 // The first bytes of the store, the first lengths, the first words of the rows: as many as the line says.
-pub fn view(text: &[u8], store: &[u8], lens: &[u16], rows: &[u64]) {
+pub fn view(rt: &impl Print, text: &[u8], store: &[u8], lens: &[u16], rows: &[u64]) {
     let s = line::part(text, 1, store.len());
     let l = line::part(text, 3, lens.len());
     let r = line::part(text, 5, rows.len());
-    out::say(b" => ");
-    out::hex(&store[0..s]);
-    out::say(b" |");
-    out::numbers16(&lens[0..l]);
-    out::rows(&rows[0..r]);
+    out::say(rt, b" => ");
+    out::hex(rt, &store[0..s]);
+    out::say(rt, b" |");
+    out::numbers16(rt, &lens[0..l]);
+    out::rows(rt, &rows[0..r]);
 }
 
 fn wide16(x: u16) -> u64 {
@@ -53,19 +53,19 @@ fn written(part: &[u8]) -> usize {
 }
 
 // How many bytes were written, and which.
-pub fn show_log(part: &[u8]) {
+pub fn show_log(rt: &impl Print, part: &[u8]) {
     let n = line::least(written(part), part.len());
-    out::number(b" ; log: ", n as u64);
-    out::say(b" bytes ");
-    bytes(&part[0..n]);
+    out::number(rt, b" ; log: ", n as u64);
+    out::say(rt, b" bytes ");
+    bytes(rt, &part[0..n]);
 }
 
 // Of more than 160 the first eight, and the check code of all.
-fn bytes(part: &[u8]) {
+fn bytes(rt: &impl Print, part: &[u8]) {
     if part.len() <= 160 {
-        out::hex(part);
+        out::hex(rt, part);
         return;
     }
-    out::hex(&part[0..8]);
-    out::number(b" .. check code ", wide16(check_code::of(part)));
+    out::hex(rt, &part[0..8]);
+    out::number(rt, b" .. check code ", wide16(check_code::of(part)));
 }

@@ -4,44 +4,44 @@ ghost use Rattle.std.specs.Prelude.{◌+◌, ◌≤◌, length};
 use text::{line, out};
 
 // The code of the bytes from word 3 on; or the codes of sixteen bytes from that one on, each alone.
-pub fn code(text: &[u8]) {
+pub fn code(rt: &impl Print, text: &[u8]) {
     let mut bytes = [0u8; 64];
     let n = line::bytes(text, 3, &mut bytes);
     if line::which(text, 1, b"codes") == 0 {
-        row(bytes[0]);
+        row(rt, bytes[0]);
         return;
     }
-    out::say(b" ");
-    out::short(check_code::of(&bytes[..n]));
+    out::say(rt, b" ");
+    out::short(rt, check_code::of(&bytes[..n]));
 }
 
-fn row(from: u8) {
+fn row(rt: &impl Print, from: u8) {
     let mut i: u8 = 0;
     while i < 16 {
-        alone(std::num::wrapping_add_u8(from, i));
+        alone(rt, std::num::wrapping_add_u8(from, i));
         i += 1;
     }
 }
 
-fn alone(b: u8) {
+fn alone(rt: &impl Print, b: u8) {
     let one = [b];
-    out::say(b" ");
-    out::short(check_code::of(&one));
+    out::say(rt, b" ");
+    out::short(rt, check_code::of(&one));
 }
 
 // Number, place, width: the number written among ten bytes 5A, all ten afterwards, and the number read back.
-pub fn number(text: &[u8]) {
+pub fn number(rt: &impl Print, text: &[u8]) {
     let width = line::part(text, 5, 8);
     let at = line::part(text, 3, 10 - width);
     let mut bytes = [0x5Au8; 10];
     words::write(&mut bytes, at, width, line::number(text, 1));
-    written(&bytes, at, width);
+    written(rt, &bytes, at, width);
 }
 
-fn written(bytes: &[u8], at: usize, width: usize)
+fn written(rt: &impl Print, bytes: &[u8], at: usize, width: usize)
     requires { (at + width ≤ length bytes.now) × (width ≤ 8) }
 {
-    out::say(b" ");
-    out::bytes(bytes);
-    out::number(b", read back ", words::read(bytes, at, width));
+    out::say(rt, b" ");
+    out::bytes(rt, bytes);
+    out::number(rt, b", read back ", words::read(bytes, at, width));
 }

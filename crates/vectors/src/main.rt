@@ -7,72 +7,72 @@ mod releases;
 mod stamps;
 mod times;
 
-use text::{line, out};
+use text::{input, line, out};
 
-fn main() {
-    let mut text = io::large_buffer();
-    let n = io::read_full(libc::STDIN_FILENO, &mut text);
-    all(&text[..n]);
+fn main(rt: HostRuntime) {
+    let mut text = input::large_buffer();
+    let n = input::read_full(&mut rt.stdin(), &mut text);
+    all(&rt, &text[..n]);
 }
 
-fn all(text: &[u8]) {
+fn all(rt: &impl Print, text: &[u8]) {
     let mut at: usize = 0;
     while at < text.len() {
         let end = line::end(text, at, b'\n');
         let next = line::next(text, end);
-        out::say(&text[at..end]);
-        one(&text[at..end]);
-        out::say(b"\n");
+        out::say(rt, &text[at..end]);
+        one(rt, &text[at..end]);
+        out::say(rt, b"\n");
         at = next;
     }
 }
 
 // What a line asks, by its first word. A line of no such word is a remark.
-fn one(text: &[u8]) {
+fn one(rt: &impl Print, text: &[u8]) {
     let k = line::which(
         text,
         0,
         b"check number packet wrapped stamp first time margin clock",
     );
     if k < 9 {
-        out::say(b":");
+        out::say(rt, b":");
     }
     if k < 4 {
-        bytes(text, k);
+        bytes(rt, text, k);
     } else {
-        moments(text, k);
+        moments(rt, text, k);
     }
 }
 
-fn bytes(text: &[u8], k: usize) {
+fn bytes(rt: &impl Print, text: &[u8], k: usize) {
     if k == 0 {
-        codes::code(text);
+        codes::code(rt, text);
     }
     if k == 1 {
-        codes::number(text);
+        codes::number(rt, text);
     }
     if k == 2 {
-        packets::packet(text);
+        packets::packet(rt, text);
     }
     if k == 3 {
-        packets::wrapped(text);
+        packets::wrapped(rt, text);
     }
 }
 
-fn moments(text: &[u8], k: usize) {
+fn moments(rt: &impl Print, text: &[u8], k: usize) {
     if k == 4 {
-        stamps::stamp(text);
+        stamps::stamp(rt, text);
     }
     if k == 5 {
-        stamps::every_first_byte();
+        stamps::every_first_byte(rt);
     }
     if k == 6 {
-        times::time(text);
+        times::time(rt, text);
     }
     if k == 7 {
-        times::margin(text);
+        times::margin(rt, text);
     }
     if k == 8 {
-        releases::release(text);
+        releases::release(rt, text);
     }
 }

@@ -7,23 +7,23 @@ use stamp::Stamp;
 use text::{line, out};
 
 // The bytes from word 1 on; or so many of the longest packet's.
-pub fn packet(text: &[u8]) {
+pub fn packet(rt: &impl Print, text: &[u8]) {
     if line::which(text, 1, b"of") == 0 {
-        longest(line::part(text, 2, 65543));
+        longest(rt, line::part(text, 2, 65543));
         return;
     }
     let mut bytes = [0u8; 64];
     let n = line::bytes(text, 1, &mut bytes);
-    answer(&bytes[..n]);
+    answer(rt, &bytes[..n]);
 }
 
 // P's header with the length field at its most, zeros as user data, the check code, and a byte behind it.
-fn longest(n: usize)
+fn longest(rt: &impl Print, n: usize)
     requires { n ≤ 65543 }
 {
     let mut space = [0u8; 65543];
     make(&mut space);
-    answer(&space[0..n]);
+    answer(rt, &space[0..n]);
 }
 
 fn make(space: &mut [u8])
@@ -36,74 +36,74 @@ fn make(space: &mut [u8])
 }
 
 // What the reader says of any bytes, and the part that it hands back as user data.
-fn answer(bytes: &[u8]) {
+fn answer(rt: &impl Print, bytes: &[u8]) {
     let reading = packet::read(bytes);
     match reading {
-        Reading::Packet(h) => header(h),
-        Reading::Unreadable(f) => unreadable(f),
+        Reading::Packet(h) => header(rt, h),
+        Reading::Unreadable(f) => unreadable(rt, f),
     }
-    out::say(b", user data ");
-    part(packet::user_data(bytes));
+    out::say(rt, b", user data ");
+    part(rt, packet::user_data(bytes));
 }
 
-fn header(h: Header) {
-    out::number(b" service ", h.service as u64);
-    out::number(b", subservice ", h.subservice as u64);
-    out::number(b", source ", h.source_id as u64);
-    out::number(b", APID ", h.apid as u64);
-    out::number(b", sequence count ", h.seq_count as u64);
-    out::number(b", total ", h.total as u64);
-    out::say(b", request ID ");
-    out::long(h.request_id().as_u64());
+fn header(rt: &impl Print, h: Header) {
+    out::number(rt, b" service ", h.service as u64);
+    out::number(rt, b", subservice ", h.subservice as u64);
+    out::number(rt, b", source ", h.source_id as u64);
+    out::number(rt, b", APID ", h.apid as u64);
+    out::number(rt, b", sequence count ", h.seq_count as u64);
+    out::number(rt, b", total ", h.total as u64);
+    out::say(rt, b", request ID ");
+    out::long(rt, h.request_id().as_u64());
 }
 
-fn unreadable(f: Fault) {
+fn unreadable(rt: &impl Print, f: Fault) {
     match f {
-        Fault::Length => out::say(b" unreadable, length"),
-        Fault::Total => out::say(b" unreadable, total"),
-        Fault::HeaderBits => out::say(b" unreadable, header bits"),
-        Fault::VersionNibble => out::say(b" unreadable, version nibble"),
-        Fault::CheckBytes => out::say(b" unreadable, check bytes"),
+        Fault::Length => out::say(rt, b" unreadable, length"),
+        Fault::Total => out::say(rt, b" unreadable, total"),
+        Fault::HeaderBits => out::say(rt, b" unreadable, header bits"),
+        Fault::VersionNibble => out::say(rt, b" unreadable, version nibble"),
+        Fault::CheckBytes => out::say(rt, b" unreadable, check bytes"),
     }
 }
 
 // Bytes, or how many there are where they would fill a screen.
-fn part(s: &[u8]) {
+fn part(rt: &impl Print, s: &[u8]) {
     if s.len() <= 32 {
-        out::bytes(s);
+        out::bytes(rt, s);
         return;
     }
-    out::number(b"", s.len() as u64);
-    out::say(b" bytes");
+    out::number(rt, b"", s.len() as u64);
+    out::say(rt, b" bytes");
 }
 
 // The readers one after the other: a packet, the stamp in its user data, and the packet behind the stamp.
-pub fn wrapped(text: &[u8]) {
+pub fn wrapped(rt: &impl Print, text: &[u8]) {
     let mut bytes = [0u8; 64];
     let n = line::bytes(text, 2, &mut bytes);
-    outer(&bytes[..n]);
+    outer(rt, &bytes[..n]);
 }
 
-fn outer(bytes: &[u8]) {
+fn outer(rt: &impl Print, bytes: &[u8]) {
     match packet::read(bytes) {
-        Reading::Packet(h) => opened(h.user_data(bytes)),
-        Reading::Unreadable(f) => unreadable(f),
+        Reading::Packet(h) => opened(rt, h.user_data(bytes)),
+        Reading::Unreadable(f) => unreadable(rt, f),
     }
 }
 
-fn opened(data: &[u8]) {
+fn opened(rt: &impl Print, data: &[u8]) {
     match stamp::read(data) {
         Stamp::At(t, n) => {
-            times::instant(b" ", t);
-            out::say(b",");
-            behind(data, n);
+            times::instant(rt, b" ", t);
+            out::say(rt, b",");
+            behind(rt, data, n);
         }
-        Stamp::Refused => out::say(b" stamp refused"),
+        Stamp::Refused => out::say(rt, b" stamp refused"),
     }
 }
 
-fn behind(data: &[u8], n: usize) {
+fn behind(rt: &impl Print, data: &[u8], n: usize) {
     if n <= data.len() {
-        answer(&data[n..]);
+        answer(rt, &data[n..]);
     }
 }

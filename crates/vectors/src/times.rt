@@ -4,65 +4,65 @@ ghost use Rattle.time.specs.Time.{InRange};
 use text::{line, out};
 use time::UnixTime;
 
-pub fn instant(text: &[u8], t: UnixTime) {
-    out::signed(text, t.secs);
-    out::number(b" s ", t.nanos as u64);
-    out::say(b" ns");
+pub fn instant(rt: &impl Print, text: &[u8], t: UnixTime) {
+    out::signed(rt, text, t.secs);
+    out::number(rt, b" s ", t.nanos as u64);
+    out::say(rt, b" ns");
 }
 
-pub fn span(text: &[u8], secs: u64, nanos: u32) {
-    out::number(text, secs);
-    out::number(b" s ", nanos as u64);
-    out::say(b" ns");
+pub fn span(rt: &impl Print, text: &[u8], secs: u64, nanos: u32) {
+    out::number(rt, text, secs);
+    out::number(rt, b" s ", nanos as u64);
+    out::say(rt, b" ns");
 }
 
 // One time; or two, the first against the second.
-pub fn time(text: &[u8]) {
+pub fn time(rt: &impl Print, text: &[u8]) {
     let t = line::time_of(text, 1, 3);
     if t.in_range() {
         if line::which(text, 5, b"against") == 0 {
-            against(t, line::time_of(text, 6, 8));
+            against(rt, t, line::time_of(text, 6, 8));
         } else {
-            there_and_back(t);
+            there_and_back(rt, t);
         }
     } else {
-        out::say(b" out of range");
+        out::say(rt, b" out of range");
     }
 }
 
 // The time counted from -2^42 s, and from there back.
-fn there_and_back(t: UnixTime)
+fn there_and_back(rt: &impl Print, t: UnixTime)
     requires { InRange t }
 {
     let m = t.to_moment();
-    span(b" in range, moment ", m.secs, m.nanos);
-    instant(b", back ", m.to_unix_time());
+    span(rt, b" in range, moment ", m.secs, m.nanos);
+    instant(rt, b", back ", m.to_unix_time());
 }
 
-fn against(a: UnixTime, b: UnixTime)
+fn against(rt: &impl Print, a: UnixTime, b: UnixTime)
     requires { InRange a }
 {
     if b.in_range() {
-        ordered(a, b);
+        ordered(rt, a, b);
     }
 }
 
-fn ordered(a: UnixTime, b: UnixTime)
+fn ordered(rt: &impl Print, a: UnixTime, b: UnixTime)
     requires in_range { InRange a }
     requires in_range_2 { InRange b }
 {
     if a.to_moment().is_before(b.to_moment()) {
-        out::say(b" before");
+        out::say(rt, b" before");
     } else {
-        out::say(b" not before");
+        out::say(rt, b" not before");
     }
 }
 
-pub fn margin(text: &[u8]) {
+pub fn margin(rt: &impl Print, text: &[u8]) {
     let m = line::margin_of(text, 1, 3);
     if m.in_range() {
-        out::say(b" in range");
+        out::say(rt, b" in range");
     } else {
-        out::say(b" out of range");
+        out::say(rt, b" out of range");
     }
 }

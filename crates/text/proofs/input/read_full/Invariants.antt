@@ -1,0 +1,9 @@
+-- `text::input::read_full` meets its contract.
+use Rattle.std.proofs.Common.{length, ◌-◌, ◌≤◌}
+use Rattle.text.proofs.input.read_full.Given as goal
+
+abbrev pub invariant-loop-done : goal.invariant-loop-done
+invariant-loop-done g l = l.done ≤ length l.buf
+
+abbrev pub decreases-loop-done : goal.decreases-loop-done
+decreases-loop-done g l = length l.initial.buf - l.done
