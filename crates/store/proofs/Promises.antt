@@ -10,7 +10,7 @@ use Rattle.lookup.proofs.Packets.{PacketAt, held_inside, spot_refused}
 use Rattle.lookup.specs.Calls.{if_held, if_named, judging}
 use Rattle.lookup.specs.Refusals.{paper}
 use Rattle.rules.specs.Papers.{Outcome, Paper, after, done, no, refused, says}
-use Rattle.slots.specs.Inside.{fits, spot_of}
+use Rattle.slots.specs.Inside.{spot_of}
 use Rattle.slots.specs.Pools.{Pool, find}
 use Rattle.slots.specs.View.{Leaves, lens_with, put, store_with, view}
 use Rattle.store.proofs.Edit.{leaves_wipe}
