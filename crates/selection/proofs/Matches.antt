@@ -6,7 +6,6 @@ use Rattle.rows.specs.Entries.{Entry, row, time, unpack}
 use Rattle.rows.specs.Order.{ordered}
 use Rattle.rules.proofs.All.{and_left, and_right, fails}
 use Rattle.rules.proofs.Cases.{eq_or_ne}
-use Rattle.rules.specs.Papers.{no}
 use Rattle.selection.specs.Inside.{last_like, like}
 use Rattle.selection.specs.Match.{first_match, is_match, last_match, none, victim}
 use borrow.Author.Tests.{eq-eqb, eqb-true, ne_eqb}

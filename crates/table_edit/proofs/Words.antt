@@ -1,7 +1,6 @@
 -- Words moved and cleared within a list, one store a turn.
 use Prim.Native.Nat.{◌+◌, ◌-◌, ◌<◌, ◌≤◌, suc, ℕ}
 use Rattle.table_edit.specs.Inside.{cleared, moved}
-use lib.Dec.{T}
 use lib.ListN.{get_or-append, drop, get_or, length, length-append, length-drop, length-replicate, length-take, replicate, replicate-append-replicate, set, take, take-append-drop}
 use lib.Seq.{append_snoc, drop_at, drop-cons, get_or-append-add, get_or-drop, get_or-take, length_paste_head, paste, paste-suc, paste-zero, set_at, set_split, take-append-le, take-take}
 use mathlib.Core.List.{List, [], ◌++◌, ◌∷◌, append_assoc, append-nil}

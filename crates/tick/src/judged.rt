@@ -10,8 +10,8 @@ ghost use Rattle.tick.specs.Promise.{TickDoes, tick_paper};
 ghost use Rattle.tick.specs.Tick.{tick_in};
 
 use crate::{Handed, TickAnswer, Ticked};
-use release_log::MAX_LOG_BYTES;
 use record::{Record, ScheduleRefusal};
+use release_log::MAX_LOG_BYTES;
 use schedule::Setup;
 
 pub fn tick(

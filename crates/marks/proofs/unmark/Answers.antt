@@ -1,5 +1,5 @@
 -- `marks::unmark` meets its contract.
-use Prim.Native.Nat.{◌-◌, ◌<◌}
+use Prim.Native.Nat.{◌<◌}
 use Rattle.layout.proofs.Layouts.{setup_few}
 use Rattle.marks.proofs.Marking.{rows_inside}
 use Rattle.marks.proofs.Unmarking.{restores, unmarked_more}

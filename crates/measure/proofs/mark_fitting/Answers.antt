@@ -1,5 +1,4 @@
 -- `measure::mark_fitting` meets its contract.
-use Prim.Native.Nat.{◌-◌}
 use Rattle.measure.proofs.Measuring.{measuring_first, measuring_last, measuring_next, measuring_stop}
 use Rattle.measure.proofs.mark_fitting.Goals as goal
 
@@ -7,13 +6,12 @@ pub loop-i-init : goal.loop-i-init
 loop-i-init c = measuring_first _ _ _ _ _ _ _ c.requires.store_sound c.requires.le_cap.0
 
 pub returns-then-cap-next : goal.returns-then-cap-next
-returns-then-cap-next c =
-    (
-      measuring_stop _ _ _ _ _ _ _ _ _ _ c.loop-i.invariant _ _ _
-          c.tc_info-info.ensures.1 c.place_of-place.ensures c.bytes_left-len.ensures
-          c.loop-i-test.true c.if-cap-next.true,
-      c.loop-i.invariant.counted,
-    )
+returns-then-cap-next c = (
+  measuring_stop _ _ _ _ _ _ _ _ _ _ c.loop-i.invariant _ _ _
+      c.tc_info-info.ensures.1 c.place_of-place.ensures c.bytes_left-len.ensures
+      c.loop-i-test.true c.if-cap-next.true,
+  c.loop-i.invariant.counted,
+)
 
 pub loop-i-preserved : goal.loop-i-preserved
 loop-i-preserved c =

@@ -16,7 +16,7 @@ pub lens_ok-sound-requires : goal.lens_ok-sound-requires
 lens_ok-sound-requires c = (
   passes c.setup_ok-fine.ensures c.if-not-fine.false,
   (buffers_fit _ _ _ (passes c.buffers_ok-fits.ensures c.if-not-fits.false)).1,
-    )
+)
 
 pub returns-then-not-sound : goal.returns-then-not-sound
 returns-then-not-sound c =

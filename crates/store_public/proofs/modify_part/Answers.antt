@@ -10,4 +10,4 @@ returns c = (
   refl,
   ap (λ (n : ℕ). n + c.args.store.ref_ptr.1)
       c.lent-s.ensures.start,
-    )
+)

@@ -1,5 +1,5 @@
 -- `table::below_words` meets its contract. The loop's invariant: the rows passed are before the moment, and what is left decides.
-use Prim.Native.Nat.{◌*◌, ◌+◌, ◌-◌, ◌<◌, ℕ}
+use Prim.Native.Nat.{◌*◌, ◌+◌, ◌<◌, ℕ}
 use Rattle.rows.proofs.Order.{ordered_row}
 use Rattle.rows.specs.Entries.{row, time}
 use Rattle.table.proofs.Before.{below_end, below_go, below_stop}

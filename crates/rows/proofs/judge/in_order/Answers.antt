@@ -1,9 +1,8 @@
 -- `rows::judge::in_order` meets its contract. The loop's invariant is `Inside.Passed`.
-use Prim.Native.Nat.{◌*◌, ◌+◌, ◌-◌, ◌≤◌}
+use Prim.Native.Nat.{◌*◌, ◌+◌, ◌≤◌}
 use Rattle.rows.proofs.Judging.{judge_bad, judge_last, judge_next}
 use Rattle.rows.specs.Entries.{row}
 use Rattle.time.specs.Time.{giga}
-use mathlib.Core.Logic.{⊎_elim}
 use native.Mathlib.Omega.{arith}
 use Rattle.rows.proofs.judge.in_order.Goals as goal
 use Rattle.rows.proofs.judge.in_order.Goals.{then-s-secs+else-s-secs-2+else-n-nanos, else-s-secs}

@@ -1,5 +1,4 @@
 -- `rows::judge::risen` meets its contract. The loop's invariant is `Inside.Passed`.
-use Prim.Native.Nat.{◌-◌}
 use Rattle.rows.proofs.Judging.{judge_four}
 use native.Mathlib.Omega.{arith}
 use Rattle.rows.proofs.judge.risen.Goals as goal

@@ -1,5 +1,4 @@
 -- `selection::find::first_match` meets its contract. The loop's invariant: no row passed has the ID.
-use Prim.Native.Nat.{◌-◌}
 use Rattle.selection.proofs.Matches.{first_end, first_go, first_here}
 use native.Mathlib.Omega.{arith}
 use Rattle.selection.proofs.find.first_match.Goals as goal

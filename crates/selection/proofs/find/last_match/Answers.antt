@@ -1,5 +1,5 @@
 -- `selection::find::last_match` meets its contract. The loop's invariant: what is left goes on from the best so far.
-use Prim.Native.Nat.{◌+◌, ◌-◌, ℕ}
+use Prim.Native.Nat.{◌+◌, ℕ}
 use Rattle.rows.specs.Entries.{Entry, row, time, unpack}
 use Rattle.selection.proofs.Matches.{last_end, last_go}
 use Rattle.selection.specs.Inside.{last_like}

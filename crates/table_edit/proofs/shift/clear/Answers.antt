@@ -1,5 +1,4 @@
 -- `table_edit::shift::clear` meets its contract. The loop's invariant: as many words are zero as were passed.
-use Prim.Native.Nat.{◌-◌}
 use Rattle.table_edit.proofs.Words.{clear_start, clear_step}
 use lib.ListN.{length-set}
 use mathlib.Core.Path.{refl}

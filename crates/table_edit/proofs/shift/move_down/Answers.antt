@@ -1,5 +1,4 @@
 -- `table_edit::shift::move_down` meets its contract. The loop's invariant: as many words are moved as were passed.
-use Prim.Native.Nat.{◌-◌}
 use Rattle.table_edit.proofs.Words.{down_start, down_step}
 use lib.ListN.{length-set}
 use mathlib.Core.Path.{refl}
@@ -15,4 +14,4 @@ loop-k-preserved c = (
   search rules,
   rw c.loop-k.invariant.1 (down_step _ _ _ _ (omega arith) (omega arith)),
   simp length-set c.loop-k.invariant.2,
-    )
+)

@@ -1,5 +1,5 @@
 -- `table_edit::shift::move_up` meets its contract. The loop counts down; its invariant says what is still to move.
-use Prim.Native.Nat.{◌-◌, ◌≤◌}
+use Prim.Native.Nat.{◌≤◌}
 use Rattle.table_edit.proofs.Words.{upped}
 use lib.ListN.{length}
 use mathlib.Core.Path.{◌≡◌}

@@ -1,0 +1,9 @@
+-- `face_tied::delete_by_id` meets its contract.
+use Rattle.face_demands.specs.FaceCalling.{FaceCalls}
+use mathlib.Core.Path.{refl}
+use Rattle.face_tied.proofs.delete_by_id.Goals as goal
+
+pub returns : goal.returns
+unfolding FaceCalls
+returns c =
+    record { tables = c.silotwist_delete_by_id.ensures; buffer = refl }

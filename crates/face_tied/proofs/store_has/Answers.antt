@@ -1,0 +1,8 @@
+-- `face_tied::store_has` meets its contract.
+use Rattle.face_demands.specs.FaceCalling.{FaceCalls}
+use mathlib.Core.Path.{refl}
+use Rattle.face_tied.proofs.store_has.Goals as goal
+
+pub returns : goal.returns
+unfolding FaceCalls
+returns c = record { answer = c.silotwist_store_has.ensures; lent = refl; buffer = refl }

@@ -1,0 +1,23 @@
+-- `silotwist::insert_calls::silotwist_insert_unwrapped` meets its contract.
+use Rattle.insertions.specs.Inserting.{insert_unwrapped_in}
+use Rattle.face.proofs.ScheduleCalls.{changes_at, changes_no_room, changes_short}
+use Rattle.face_reading.proofs.Seconds.{held_time}
+use mathlib.Core.Path.{refl}
+use Rattle.silotwist.proofs.insert_calls.silotwist_insert_unwrapped.Goals as goal
+
+pub returns-then-answer-lt8 : goal.returns-then-answer-lt8
+returns-then-answer-lt8 c = changes_no_room _ c.if-answer-lt8.true
+
+pub returns-then-record-lt6 : goal.returns-then-record-lt6
+returns-then-record-lt6 c =
+    changes_short _ c.if-answer-lt8.false c.setup-su.ensures c.if-record-lt6.true refl
+    c.short.ensures.0 c.short.ensures.1
+
+pub returns : goal.returns
+returns c =
+    let a = c.args in
+    changes_at (λ t su. insert_unwrapped_in su t a.packet.now) (held_time _ _ _ c.ranges.secs c.time-t.ensures)
+    c.if-answer-lt8.false c.setup-su.ensures c.if-record-lt6.false c.record-r.ensures
+    c.insert_unwrapped_tc-c.ensures
+    c.inserted-w.ensures c.with_count.ensures.number
+    c.with_count.ensures.words c.with_count.ensures.written
