@@ -8,6 +8,9 @@ use mathlib.Core.List.{List}
 use mathlib.Core.Path.{◌∙◌, ◌≡◌, ap, refl}
 use native.Mathlib.Omega.{arith}
 
+pub tally_first : (log : List ℕ) (n : ℕ) (t : Totals) → tally_from log 0 (n - 0) t ≡ tally_from log 0 n t
+tally_first log n t = ap (λ (k : ℕ). tally_from log 0 k t) (omega arith)
+
 step : (log : List ℕ) (i m : ℕ) (t : Totals) → tally_from log (i + 1) m (tally_found (found_in log i) t) ≡ tally_from log i (suc m) t
 step log i m t = unfold tally_from in refl
 

@@ -1,5 +1,4 @@
 -- `sweep::sweep` meets its contract.
-use Prim.Native.Nat.{◌-◌}
 use mathlib.Core.Path.{refl}
 use native.Mathlib.Omega.{arith}
 use borrow.Author.Rules.{rules}
@@ -19,7 +18,7 @@ loop-i-preserved c = (
       c.requires.number_bound _ _ _ _ _
       c.tc_info-info.ensures.1
       c.delete-d.ensures c.one_more-c.ensures,
-    )
+)
 
 pub returns : goal.returns
 returns c =
