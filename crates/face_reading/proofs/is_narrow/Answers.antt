@@ -1,5 +1,4 @@
 -- `face_reading::is_narrow` meets its contract.
-use Prim.Native.Nat.{◌-◌}
 use Rattle.face_reading.proofs.Narrow.{narrow_end, narrow_stop}
 use Rattle.face_reading.proofs.is_narrow.Goals as goal
 

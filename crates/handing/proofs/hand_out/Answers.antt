@@ -1,5 +1,4 @@
 -- `handing::hand_out` meets its contract.
-use Prim.Native.Nat.{◌-◌}
 use Rattle.handing.proofs.Turning.{turning_first, turning_last, turning_next, turning_room}
 use mathlib.Core.Path.{◌∙◌}
 use native.Mathlib.Omega.{arith}

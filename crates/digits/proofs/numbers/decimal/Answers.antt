@@ -2,7 +2,7 @@
 use mathlib.Core.Path.{◌∙◌, ap, sym}
 use Rattle.digits.specs.Digits.{held}
 use Rattle.digits.proofs.Laws.{digits_end, digits_more, digits_stop}
-use Prim.Native.Nat.{◌*◌, ◌+◌, ◌-◌, ℕ}
+use Prim.Native.Nat.{◌*◌, ◌+◌, ℕ}
 use Rattle.digits.proofs.numbers.decimal.Goals as goal
 
 pub loop-i-preserved : goal.loop-i-preserved

@@ -1,5 +1,5 @@
 -- `face_words::telling::copy` meets its contract.
-use Prim.Native.Nat.{◌-◌, ℕ}
+use Prim.Native.Nat.{ℕ}
 use Rattle.face_words.proofs.Eight.{eight_end, eight_more}
 use lib.ListN.{get_or, length-set, set}
 use mathlib.Core.List.{List}
