@@ -101,7 +101,8 @@ unfolding start_in judged_by unless
 start_judges an sw ws a b d c m =
     let su = setup_from sw in
     schedule_judges an sw ws (λ su r. start_in su a b d c m)
-    (judged_most (setup_ok su) (buffers_ok su a b d) true (unless (in_range c && margin_in_range m) (refused (no 4 [])) (done [] (fresh_state su c m)))
+    (judged_most (setup_ok su) (buffers_ok su a b d) true (unless (in_range c &&
+    margin_in_range m) (refused (no 4 [])) (done [] (fresh_state su c m)))
     (own_unless (in_range c && margin_in_range m) (refused (no 4 [])) (done [] (fresh_state su c m)) (omega arith, omega arith) tt))
 
 own_packet : (ps : List Pool) (a : ℕ) → Own (packet_in ps a)

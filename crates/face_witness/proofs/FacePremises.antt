@@ -46,7 +46,8 @@ use native.Mathlib.Omega.{arith}
 
 begins : FaceBegins small (secs 0) none before fresh
 unfolding FacePromised schedule_call answering answered padded well_counted column switched start_in unless setup_ok store_setup_ok buffers_ok
-    store_buffers_ok all_of all_below last_size bytes_before rows_before says after fresh_pools each store_with lens_with pool_bytes pool_lens relaid pack
+    store_buffers_ok all_of all_below last_size bytes_before rows_before says after fresh_pools each store_with lens_with pool_bytes pool_lens
+    relaid pack
 begins =
     record {
       lent = replicate 8 0;
@@ -61,7 +62,8 @@ begins =
 
 begins_larger : FaceBegins large (secs 0) none before' fresh'
 unfolding FacePromised schedule_call answering answered padded well_counted column switched start_in unless setup_ok store_setup_ok buffers_ok
-    store_buffers_ok all_of all_below last_size bytes_before rows_before says after fresh_pools each store_with lens_with pool_bytes pool_lens relaid pack
+    store_buffers_ok all_of all_below last_size bytes_before rows_before says after fresh_pools each store_with lens_with pool_bytes pool_lens
+    relaid pack
 begins_larger =
     record {
       lent = replicate 8 0;
@@ -107,7 +109,8 @@ unfolding FaceRunsExist
 a_run = face_runs_exist small calls fresh
 
 answered_as : all_told small calls (run (setup_from small) (requests_of calls) (fresh_state (setup_from small) (secs 0) none)).answers ≡ answers
-unfolding add_in after ahead all_below all_of below bytes_before bytes_of carried choose clock_in column count_in each edit_at enter find_at first_lacks
+unfolding add_in after ahead all_below all_of below bytes_before bytes_of carried choose clock_in column count_in each edit_at enter find_at
+    first_lacks
     fresh_pools handed_out handout if_held if_named insert_sorted insert_stored_in leave log_bytes looked modify_in offsets over padded part_at
     place read_in record_bytes records request_of run says step switched through tick_in ticked timed total unless
 answered_as = refl
@@ -152,7 +155,8 @@ unfolding request_of
 kept_bytes = all_of_bytes (requests_of kept) refl
 
 larger_as : all_told large kept (run (setup_from large) (requests_of kept) (fresh_state (setup_from large) (secs 0) none)).answers ≡ kept_answers 8
-unfolding add_in after ahead all_below all_of below bytes_before bytes_of carried choose clock_in column count_in each edit_at enter find_at first_lacks
+unfolding add_in after ahead all_below all_of below bytes_before bytes_of carried choose clock_in column count_in each edit_at enter find_at
+    first_lacks
     fresh_pools handed_out handout if_held if_named insert_sorted insert_stored_in leave log_bytes looked modify_in offsets over padded part_at
     place read_in record_bytes records request_of run says step switched through tick_in ticked timed total unless
 larger_as = refl

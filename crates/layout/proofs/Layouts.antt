@@ -87,7 +87,8 @@ pub pool_test : (su : Setup) (k last size slots : ℕ) (r b : Bool) → last ≡
     → r ≡ pool_ok last size slots → r ≡ b → pool_ok_at su k ≡ b
 pool_test su k last size slots r b p q s e t = cc
 
-pub rows_test : (su : Setup) (lens : List ℕ) (k base count size : ℕ) (r b : Bool) → base ≡ rows_before su k → size ≡ size_at su k → count ≡ slots_at su k
+pub rows_test : (su : Setup) (lens : List ℕ) (k base count size : ℕ) (r b : Bool) → base ≡ rows_before su k → size ≡ size_at su k →
+    count ≡ slots_at su k
     → r ≡ all_below (row_ok lens base size) count → r ≡ b → pool_lens_ok su lens k ≡ b
 rows_test su lens k base count size r b p q s e t = rw (← p, ← q, ← s, ← e) t
 

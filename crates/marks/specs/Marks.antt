@@ -27,5 +27,6 @@ unless_marked w packet = unless (ltb w added) [] packet
 pub record Marks (su : Setup) (st le₀ : List ℕ) (ps : List Pool) (le : List ℕ) : Type 0 where
   pub sound : Sound su st le₀
   pub same_length : length le ≡ length le₀
-  pub rows : (r : ℕ) → (get_or le r 0 ≡ get_or le₀ r 0) ⊎ ((r < all_rows su) × (get_or le₀ r 0 ≤ max_slot_size) × (get_or le r 0 ≡ get_or le₀ r 0 + added))
+  pub rows : (r : ℕ) → (get_or le r 0 ≡ get_or le₀ r 0) ⊎
+      ((r < all_rows su) × (get_or le₀ r 0 ≤ max_slot_size) × (get_or le r 0 ≡ get_or le₀ r 0 + added))
   pub packets : (a : ℕ) → packet_at ps a ≡ unless_marked (get_or le (row_of su a) 0) (packet_at (view su st le₀) a)

@@ -80,7 +80,8 @@ refusal_of n vs =
     (cond (eqb n 9) TcUnreadable
     (cond (eqb n 10) NestedScheduledTc
     (cond (eqb n 13)
-    (ReleaseTimeInTimeMargin (time_back (get_or vs 0 0) (get_or vs 1 0)) (margin_back (get_or vs 2 0) (get_or vs 3 0)) (time_back (get_or vs 4 0) (get_or vs 5 0)))
+    (ReleaseTimeInTimeMargin (time_back (get_or vs 0 0) (get_or vs 1 0)) (margin_back (get_or vs 2 0) (get_or vs 3 0))
+    (time_back (get_or vs 4 0) (get_or vs 5 0)))
     (cond (eqb n 14) ScheduleFull
     (cond (eqb n 15) ReversedWindow
     (cond (eqb n 20) (LogTooSmall (get_or vs 0 0)) (Store (store_back (no n vs)))))))))))))

@@ -68,7 +68,8 @@ unless_gives su b x y g h = either (Gives su) b y x h (λ e. g)
 pub with_pools_lem : (su : Setup) (s : State) (ps : List Pool) → Fits su s → PoolsFit su.store 0 ps → Fits su (with_pools ps s)
 with_pools_lem su s ps f h = record { pools = h; kept = f.kept; few = f.few; clock = f.clock; margin = f.margin }
 
-pub with_entries_lem : (su : Setup) (s : State) (es : List Entry) → Fits su s → ordered es ≡ true → length es ≤ su.entries → Fits su (with_entries es s)
+pub with_entries_lem : (su : Setup) (s : State) (es : List Entry) → Fits su s → ordered es ≡ true → length es ≤ su.entries →
+    Fits su (with_entries es s)
 with_entries_lem su s es f k n = record { pools = f.pools; kept = k; few = n; clock = f.clock; margin = f.margin }
 
 -- ---- the store's calls

@@ -146,4 +146,5 @@ pub from_start : (su : Setup) (room lens rows : ℕ) (c : UnixTime) (m : Margin)
     → (qs : List Request) → AllOfBytes qs → Fits su (run su qs (fresh_state su c m)).state
 unfolding start_in
 from_start su room lens rows c m fine qs o =
-    run_stays su qs (fresh_state su c m) o (fresh_fits su room lens rows c m [] (fresh_state su c m) (started _ _ _ (fresh_state su c m) _ refl fine).2)
+    run_stays su qs (fresh_state su c m) o
+    (fresh_fits su room lens rows c m [] (fresh_state su c m) (started _ _ _ (fresh_state su c m) _ refl fine).2)

@@ -40,7 +40,8 @@ filter_same p q u (e ∷ es) h o =
     rw (h e a.range, filter_same p q (time e) es h a.rest)
 
 -- of a list in order from u on: none passes, and all do
-pub filter_none : (p : Entry → Bool) (u : ℕ) (es : List Entry) → ordered_from u es ≡ true → ((e : Entry) → u ≤ time e → p e ≡ false) → filter p es ≡ []
+pub filter_none : (p : Entry → Bool) (u : ℕ) (es : List Entry) → ordered_from u es ≡ true → ((e : Entry) → u ≤ time e → p e ≡ false) →
+    filter p es ≡ []
 filter_none p u [] o h = unfold filter in refl
 filter_none p u (e ∷ es) o h =
     let a = ordered_cons u e es o in

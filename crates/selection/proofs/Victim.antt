@@ -105,7 +105,8 @@ victim_upper : (id : ℕ) (es : List Entry) (j : ℕ) → j < length es → is_m
 unfolding victim
 victim_upper id es j l h = omega (arith, last_upper id (first_time id es) 0 (length es) es j l h)
 
-victim_found : (id : ℕ) (es : List Entry) (j : ℕ) → j < length es → is_match id (first_time id es) (get_or es j none) ≡ true → victim id es < length es
+victim_found : (id : ℕ) (es : List Entry) (j : ℕ) → j < length es → is_match id (first_time id es) (get_or es j none) ≡ true →
+    victim id es < length es
 unfolding victim
 victim_found id es j l h = omega (arith, last_found id (first_time id es) 0 (length es) es j l h)
 

@@ -94,7 +94,8 @@ module _ (su : Setup) (st le : List ℕ) (a k s : ℕ) (p : k ≡ pool_of a) (q 
       go (past_slots l m) w = inr (find_no_slot su st le (pool_of a) (slot_of a) l m, refused_same _ _ (w ∙ sym (valid_slot su _ _ l m)))
       go (has_slot l m) w = absurd (no_cell e _ (w ∙ sym (valid_yes su _ _ l m)))
 
-  named : (c : Cell) → validated su k s ≡ At c → (pool_of a < su.pools) × (slot_of a < slots_at su (pool_of a)) × (c ≡ cell_of su (pool_of a) (slot_of a))
+  named : (c : Cell) → validated su k s ≡ At c → (pool_of a < su.pools) × (slot_of a < slots_at su (pool_of a)) ×
+      (c ≡ cell_of su (pool_of a) (slot_of a))
   named c v = valid_at su (pool_of a) (slot_of a) c (ap₂ (validated su) (sym p) (sym q) ∙ v)
 
   pub vacant_there : (c : Cell) → validated su k s ≡ At c → get_or le c.row 0 ≡ store_free → find (view su st le) a ≡ vacant

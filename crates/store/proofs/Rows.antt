@@ -44,7 +44,8 @@ RowSays su le a vacant = (row_of su a < all_rows su) × (get_or le (row_of su a)
 RowSays su le a (held n b) = (row_of su a < all_rows su) × (get_or le (row_of su a) 0 ≡ n) × (n ≤ length b) × (n ≤ max_slot_size)
 
 module _ (su : Setup) (st le : List ℕ) (ok : Sound su st le) (a : ℕ) where
-  bytes_long : Within su (length st) le (cell_of su (pool_of a) (slot_of a)) → length (bytes_at su st (pool_of a) (slot_of a)) ≡ size_at su (pool_of a)
+  bytes_long : Within su (length st) le (cell_of su (pool_of a) (slot_of a)) →
+      length (bytes_at su st (pool_of a) (slot_of a)) ≡ size_at su (pool_of a)
   unfolding bytes_at
   bytes_long c = part_length _ _ st c.bytes_fit
 

@@ -44,8 +44,10 @@ use mathlib.Core.Bool.{Bool, false, true}
 use Rattle.witness.specs.Given.{secs}
 
 pub answered_as : (run small requests (fresh_state small (secs 10) two_seconds)).answers ≡ answers
-unfolding activity add_in after all_below all_of below bytes_of carried check_bytes check_code choose clear_in clock_in count_in data_of delete_by_id_in delete_in
-    delete_keeping_in delete_window_in each edit_at end_of ends_in_range enter entered feed filter find_at first_lacks first_match first_row forward freed
+unfolding activity add_in after all_below all_of below bytes_of carried check_bytes check_code choose clear_in clock_in count_in data_of
+    delete_by_id_in delete_in
+    delete_keeping_in delete_window_in each edit_at end_of ends_in_range enter entered feed filter find_at first_lacks first_match first_row forward
+    freed
     fresh_pools handed_out handout has_in header_bits if_held if_named insert_sorted insert_stored_in insert_unwrapped_in insert_wrapped_in is_match
     last_match leave len_in log_bytes looked mark_in modify_in number offsets opened over place read_in read_of record_bytes records reset_in
     retrieve_in run says shift stamp_at stamp_of stamped start_of step sweep swept take_in through tick_in ticked timed total total_in_bounds unless
@@ -53,8 +55,10 @@ unfolding activity add_in after all_below all_of below bytes_of carried check_by
 answered_as = refl
 
 pub handed_as : (del : Bool) → (run small (ticks 2 del logs) (stands small loaded)).answers ≡ handed
-unfolding activity add_in after all_below all_of below bytes_at bytes_before bytes_of carried check_bytes check_code choose clear_in clock_in count_in data_of
-    delete_by_id_in delete_in delete_keeping_in delete_window_in each edit_at end_of ends_in_range enter entered feed filter find_at first_lacks first_match
+unfolding activity add_in after all_below all_of below bytes_at bytes_before bytes_of carried check_bytes check_code choose clear_in clock_in
+    count_in data_of
+    delete_by_id_in delete_in delete_keeping_in delete_window_in each edit_at end_of ends_in_range enter entered feed filter find_at first_lacks
+    first_match
     first_row forward freed fresh_pools handed_out handout has_in header_bits if_held if_named insert_sorted insert_stored_in insert_unwrapped_in
     insert_wrapped_in is_match last_match leave len_at len_in log_bytes looked mark_in marked modify_in number offsets opened over part place read_in
     read_of record_bytes records reset_in retrieve_in rows_before run says shift stamp_at stamp_of stamped start_of state_of step sweep swept take_in

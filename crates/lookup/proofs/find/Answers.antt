@@ -10,13 +10,15 @@ locate-spot-requires c = let h = bounds c.requires in (h.few_pools, h.rows_fit)
 
 pub offset_bounds-lens-row : goal.offset_bounds-lens-row
 offset_bounds-lens-row c =
-    let found : PacketAt c.args.setup c.args.store.now c.args.lens.now c.args.addr c.in-At.cell = packet_found c.args.setup c.args.store.now c.args.lens.now c.requires c.args.addr _ c.in-At.cell
+    let found : PacketAt c.args.setup c.args.store.now c.args.lens.now c.args.addr c.in-At.cell =
+    packet_found c.args.setup c.args.store.now c.args.lens.now c.requires c.args.addr _ c.in-At.cell
     (c.locate-spot.ensures c.args.store.now) c.in-At.is in
     omega (arith, found.inside.row_fits)
 
 pub bounds-lens-row : goal.bounds-lens-row
 bounds-lens-row c =
-    let found : PacketAt c.args.setup c.args.store.now c.args.lens.now c.args.addr c.in-At.cell = packet_found c.args.setup c.args.store.now c.args.lens.now c.requires c.args.addr _ c.in-At.cell
+    let found : PacketAt c.args.setup c.args.store.now c.args.lens.now c.args.addr c.in-At.cell =
+    packet_found c.args.setup c.args.store.now c.args.lens.now c.requires c.args.addr _ c.in-At.cell
     (c.locate-spot.ensures c.args.store.now) c.in-At.is in
     found.inside.row_fits
 
@@ -25,6 +27,7 @@ returns-in-Refused c = finds_refused _ _ _ _ _ _ (c.locate-spot.ensures _) c.in-
 
 pub returns-in-At : goal.returns-in-At
 returns-in-At c =
-    let found : PacketAt c.args.setup c.args.store.now c.args.lens.now c.args.addr c.in-At.cell = packet_found c.args.setup c.args.store.now c.args.lens.now c.requires c.args.addr _ c.in-At.cell
+    let found : PacketAt c.args.setup c.args.store.now c.args.lens.now c.args.addr c.in-At.cell =
+    packet_found c.args.setup c.args.store.now c.args.lens.now c.requires c.args.addr _ c.in-At.cell
     (c.locate-spot.ensures c.args.store.now) c.in-At.is in
     finds_at _ _ _ _ _ found _ c.wide-n.ensures.0

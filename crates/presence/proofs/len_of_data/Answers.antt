@@ -13,12 +13,14 @@ validate-spot-requires c = (bounds c.requires).few_pools
 
 pub offset_bounds-lens-row : goal.offset_bounds-lens-row
 offset_bounds-lens-row c =
-    let inside : c.in-At.cell.row < length c.args.lens.now = row_inside _ c.args.lens.now _ _ _ (bounds c.requires).rows_fit (sym c.validate-spot.ensures ∙ c.in-At.is) in
+    let inside : c.in-At.cell.row < length c.args.lens.now =
+    row_inside _ c.args.lens.now _ _ _ (bounds c.requires).rows_fit (sym c.validate-spot.ensures ∙ c.in-At.is) in
     omega (arith, inside)
 
 pub bounds-lens-row : goal.bounds-lens-row
 bounds-lens-row c =
-    let inside : c.in-At.cell.row < length c.args.lens.now = row_inside _ c.args.lens.now _ _ _ (bounds c.requires).rows_fit (sym c.validate-spot.ensures ∙ c.in-At.is) in
+    let inside : c.in-At.cell.row < length c.args.lens.now =
+    row_inside _ c.args.lens.now _ _ _ (bounds c.requires).rows_fit (sym c.validate-spot.ensures ∙ c.in-At.is) in
     inside
 
 pub returns-then-w : goal.returns-then-w

@@ -6,7 +6,8 @@ use mathlib.Core.Path.{◌≡◌}
 use Rattle.release_log.proofs.put_bytes.Given as goal
 
 abbrev pub invariant-loop-i : goal.invariant-loop-i
-invariant-loop-i l = (l.i ≤ length l.s) × ((length l.log ≡ length l.initial.log) × (sets l.log (l.at + l.i) (drop l.i l.s) ≡ sets l.initial.log l.at l.s))
+invariant-loop-i l = (l.i ≤ length l.s) ×
+    ((length l.log ≡ length l.initial.log) × (sets l.log (l.at + l.i) (drop l.i l.s) ≡ sets l.initial.log l.at l.s))
 
 abbrev pub decreases-loop-i : goal.decreases-loop-i
 decreases-loop-i l = length l.s - l.i

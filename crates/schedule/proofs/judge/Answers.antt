@@ -23,13 +23,15 @@ returns-then-not-fits c =
 pub state_ok-sound-requires : goal.state_ok-sound-requires
 state_ok-sound-requires c =
     let setup_fine : setup_ok c.args.setup ≡ true = passes c.setup_ok-fine.ensures c.if-not-fine.false in
-    let buffers_fine : buffers_ok c.args.setup (length c.args.store.now) (length c.args.lens.now) (length c.args.rows.now) ≡ true = passes c.buffers_ok-fits.ensures c.if-not-fits.false in
+    let buffers_fine : buffers_ok c.args.setup (length c.args.store.now) (length c.args.lens.now) (length c.args.rows.now) ≡ true =
+    passes c.buffers_ok-fits.ensures c.if-not-fits.false in
     long_enough _ _ _ _ setup_fine buffers_fine
 
 pub returns-then-not-sound : goal.returns-then-not-sound
 returns-then-not-sound c =
     let setup_fine : setup_ok c.args.setup ≡ true = passes c.setup_ok-fine.ensures c.if-not-fine.false in
-    let buffers_fine : buffers_ok c.args.setup (length c.args.store.now) (length c.args.lens.now) (length c.args.rows.now) ≡ true = passes c.buffers_ok-fits.ensures c.if-not-fits.false in
+    let buffers_fine : buffers_ok c.args.setup (length c.args.store.now) (length c.args.lens.now) (length c.args.rows.now) ≡ true =
+    passes c.buffers_ok-fits.ensures c.if-not-fits.false in
     let a = c.args in
     damaged a.setup a.rec a.store.now a.lens.now a.rows.now setup_fine buffers_fine
     (fails c.state_ok-sound.ensures c.if-not-sound.true)
@@ -37,7 +39,8 @@ returns-then-not-sound c =
 pub returns : goal.returns
 returns c =
     let setup_fine : setup_ok c.args.setup ≡ true = passes c.setup_ok-fine.ensures c.if-not-fine.false in
-    let buffers_fine : buffers_ok c.args.setup (length c.args.store.now) (length c.args.lens.now) (length c.args.rows.now) ≡ true = passes c.buffers_ok-fits.ensures c.if-not-fits.false in
+    let buffers_fine : buffers_ok c.args.setup (length c.args.store.now) (length c.args.lens.now) (length c.args.rows.now) ≡ true =
+    passes c.buffers_ok-fits.ensures c.if-not-fits.false in
     let a = c.args in
     all_fine a.setup a.rec a.store.now a.lens.now a.rows.now setup_fine buffers_fine
     (passes c.state_ok-sound.ensures c.if-not-sound.false)

@@ -9,12 +9,16 @@ use Rattle.starting.proofs.fresh_start.Goals as goal
 
 pub fresh-requires : goal.fresh-requires
 fresh-requires c =
-    let fine : (setup_ok c.args.setup ≡ true) × (buffers_ok c.args.setup (length c.args.store.now) (length c.args.lens.now) (length c.args.rows.now) ≡ true) = start_passed _ _ _ _ _ _ _ c.judge_start-j.ensures c.in-Fine.is in
+    let fine : (setup_ok c.args.setup ≡ true) ×
+    (buffers_ok c.args.setup (length c.args.store.now) (length c.args.lens.now) (length c.args.rows.now) ≡ true) =
+    start_passed _ _ _ _ _ _ _ c.judge_start-j.ensures c.in-Fine.is in
     let h = fine in store-sized _ _ _ _ h.0 h.1
 
 pub remove-requires-clause-held : goal.remove-requires-clause-held
 remove-requires-clause-held c =
-    let fine : (setup_ok c.args.setup ≡ true) × (buffers_ok c.args.setup (length c.args.store.now) (length c.args.lens.now) (length c.args.rows.now) ≡ true) = start_passed _ _ _ _ _ _ _ c.judge_start-j.ensures c.in-Fine.is in
+    let fine : (setup_ok c.args.setup ≡ true) ×
+    (buffers_ok c.args.setup (length c.args.store.now) (length c.args.lens.now) (length c.args.rows.now) ≡ true) =
+    start_passed _ _ _ _ _ _ _ c.judge_start-j.ensures c.in-Fine.is in
     let h = fine in
     let w = long_enough _ _ _ _ h.0 h.1 in
     record { room = w.rows_fit }

@@ -7,7 +7,8 @@ use mathlib.Core.Path.{◌≡◌}
 use Rattle.words.proofs.write.Given as goal
 
 abbrev pub invariant-loop-left : goal.invariant-loop-left
-invariant-loop-left l = (l.left ≤ l.width) × ((length l.dst ≡ length l.initial.dst) × (sets l.dst l.at (bytes_of l.left l.x) ≡ sets l.initial.dst l.at (bytes_of l.width l.v)))
+invariant-loop-left l = (l.left ≤ l.width) ×
+    ((length l.dst ≡ length l.initial.dst) × (sets l.dst l.at (bytes_of l.left l.x) ≡ sets l.initial.dst l.at (bytes_of l.width l.v)))
 
 abbrev pub decreases-loop-left : goal.decreases-loop-left
 decreases-loop-left l = l.left

@@ -10,7 +10,8 @@ use Rattle.packet.proofs.Header.user_data.Goals as goal
 
 pub overflow_sub-end : goal.overflow_sub-end
 overflow_sub-end c =
-    let fits : (13 ≤ c.args.self.total) × (c.args.self.total ≤ length c.args.bytes.now) = let p = packet_is 2 c.args.bytes.now c.args.self c.requires in
+    let fits : (13 ≤ c.args.self.total) × (c.args.self.total ≤ length c.args.bytes.now) = let p =
+    packet_is 2 c.args.bytes.now c.args.self c.requires in
     let h = total_fits 2 c.args.bytes.now p.0.total in
     let e = ap (λ (x : Header). x.total) p.1 in
     (omega arith, omega arith) in
@@ -18,7 +19,8 @@ overflow_sub-end c =
 
 pub slice_bounds-result-count : goal.slice_bounds-result-count
 slice_bounds-result-count c =
-    let fits : (13 ≤ c.args.self.total) × (c.args.self.total ≤ length c.args.bytes.now) = let p = packet_is 2 c.args.bytes.now c.args.self c.requires in
+    let fits : (13 ≤ c.args.self.total) × (c.args.self.total ≤ length c.args.bytes.now) = let p =
+    packet_is 2 c.args.bytes.now c.args.self c.requires in
     let h = total_fits 2 c.args.bytes.now p.0.total in
     let e = ap (λ (x : Header). x.total) p.1 in
     (omega arith, omega arith) in
@@ -26,7 +28,8 @@ slice_bounds-result-count c =
 
 pub slice_bounds-result-start : goal.slice_bounds-result-start
 slice_bounds-result-start c =
-    let fits : (13 ≤ c.args.self.total) × (c.args.self.total ≤ length c.args.bytes.now) = let p = packet_is 2 c.args.bytes.now c.args.self c.requires in
+    let fits : (13 ≤ c.args.self.total) × (c.args.self.total ≤ length c.args.bytes.now) = let p =
+    packet_is 2 c.args.bytes.now c.args.self c.requires in
     let h = total_fits 2 c.args.bytes.now p.0.total in
     let e = ap (λ (x : Header). x.total) p.1 in
     (omega arith, omega arith) in
@@ -34,7 +37,8 @@ slice_bounds-result-start c =
 
 pub slice_bounds-result-end : goal.slice_bounds-result-end
 slice_bounds-result-end c =
-    let fits : (13 ≤ c.args.self.total) × (c.args.self.total ≤ length c.args.bytes.now) = let p = packet_is 2 c.args.bytes.now c.args.self c.requires in
+    let fits : (13 ≤ c.args.self.total) × (c.args.self.total ≤ length c.args.bytes.now) = let p =
+    packet_is 2 c.args.bytes.now c.args.self c.requires in
     let h = total_fits 2 c.args.bytes.now p.0.total in
     let e = ap (λ (x : Header). x.total) p.1 in
     (omega arith, omega arith) in

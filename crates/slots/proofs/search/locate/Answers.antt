@@ -8,12 +8,14 @@ use Rattle.slots.proofs.search.locate.Goals as goal
 
 pub offset_bounds-lens-row : goal.offset_bounds-lens-row
 offset_bounds-lens-row c =
-    let inside : c.in-At.cell.row < length c.args.lens.now = row_inside _ c.args.lens.now _ _ _ c.requires.1 (sym c.validate-spot.ensures ∙ c.in-At.is) in
+    let inside : c.in-At.cell.row < length c.args.lens.now =
+    row_inside _ c.args.lens.now _ _ _ c.requires.1 (sym c.validate-spot.ensures ∙ c.in-At.is) in
     omega (arith, inside)
 
 pub bounds-lens-row : goal.bounds-lens-row
 bounds-lens-row c =
-    let inside : c.in-At.cell.row < length c.args.lens.now = row_inside _ c.args.lens.now _ _ _ c.requires.1 (sym c.validate-spot.ensures ∙ c.in-At.is) in
+    let inside : c.in-At.cell.row < length c.args.lens.now =
+    row_inside _ c.args.lens.now _ _ _ c.requires.1 (sym c.validate-spot.ensures ∙ c.in-At.is) in
     inside
 
 pub returns-then-lens-row : goal.returns-then-lens-row

@@ -15,37 +15,43 @@ choose-spot-requires c =
 
 pub overflow_add-end : goal.overflow_add-end
 overflow_add-end c =
-    let found : Room c.args.setup c.args.store.now c.args.lens.now (length c.args.packet.now) c.in-At.cell = room_found c.args.setup c.args.store.now c.args.lens.now c.requires (length c.args.packet.now) _ c.in-At.cell
+    let found : Room c.args.setup c.args.store.now c.args.lens.now (length c.args.packet.now) c.in-At.cell =
+    room_found c.args.setup c.args.store.now c.args.lens.now c.requires (length c.args.packet.now) _ c.in-At.cell
     (c.choose-spot.ensures c.args.store.now) c.in-At.is in
     omega (arith, found.inside.bytes_fit)
 
 pub overflow_cast-lens : goal.overflow_cast-lens
 overflow_cast-lens c =
-    let found : Room c.args.setup c.args.store.now c.args.lens.now (length c.args.packet.now) c.in-At.cell = room_found c.args.setup c.args.store.now c.args.lens.now c.requires (length c.args.packet.now) _ c.in-At.cell
+    let found : Room c.args.setup c.args.store.now c.args.lens.now (length c.args.packet.now) c.in-At.cell =
+    room_found c.args.setup c.args.store.now c.args.lens.now c.requires (length c.args.packet.now) _ c.in-At.cell
     (c.choose-spot.ensures c.args.store.now) c.in-At.is in
     let k = found in omega (arith, k.inside.small, k.holds)
 
 pub offset_bounds-lens-row : goal.offset_bounds-lens-row
 offset_bounds-lens-row c =
-    let found : Room c.args.setup c.args.store.now c.args.lens.now (length c.args.packet.now) c.in-At.cell = room_found c.args.setup c.args.store.now c.args.lens.now c.requires (length c.args.packet.now) _ c.in-At.cell
+    let found : Room c.args.setup c.args.store.now c.args.lens.now (length c.args.packet.now) c.in-At.cell =
+    room_found c.args.setup c.args.store.now c.args.lens.now c.requires (length c.args.packet.now) _ c.in-At.cell
     (c.choose-spot.ensures c.args.store.now) c.in-At.is in
     omega (arith, found.inside.row_fits)
 
 pub bounds-lens-row : goal.bounds-lens-row
 bounds-lens-row c =
-    let found : Room c.args.setup c.args.store.now c.args.lens.now (length c.args.packet.now) c.in-At.cell = room_found c.args.setup c.args.store.now c.args.lens.now c.requires (length c.args.packet.now) _ c.in-At.cell
+    let found : Room c.args.setup c.args.store.now c.args.lens.now (length c.args.packet.now) c.in-At.cell =
+    room_found c.args.setup c.args.store.now c.args.lens.now c.requires (length c.args.packet.now) _ c.in-At.cell
     (c.choose-spot.ensures c.args.store.now) c.in-At.is in
     found.inside.row_fits
 
 pub slice_bounds-copy_in-end : goal.slice_bounds-copy_in-end
 slice_bounds-copy_in-end c =
-    let found : Room c.args.setup c.args.store.now c.args.lens.now (length c.args.packet.now) c.in-At.cell = room_found c.args.setup c.args.store.now c.args.lens.now c.requires (length c.args.packet.now) _ c.in-At.cell
+    let found : Room c.args.setup c.args.store.now c.args.lens.now (length c.args.packet.now) c.in-At.cell =
+    room_found c.args.setup c.args.store.now c.args.lens.now c.requires (length c.args.packet.now) _ c.in-At.cell
     (c.choose-spot.ensures c.args.store.now) c.in-At.is in
     found.inside.bytes_fit
 
 pub copy_in-requires : goal.copy_in-requires
 copy_in-requires c =
-    let found : Room c.args.setup c.args.store.now c.args.lens.now (length c.args.packet.now) c.in-At.cell = room_found c.args.setup c.args.store.now c.args.lens.now c.requires (length c.args.packet.now) _ c.in-At.cell
+    let found : Room c.args.setup c.args.store.now c.args.lens.now (length c.args.packet.now) c.in-At.cell =
+    room_found c.args.setup c.args.store.now c.args.lens.now c.requires (length c.args.packet.now) _ c.in-At.cell
     (c.choose-spot.ensures c.args.store.now) c.in-At.is in
     let a = c.args in
     let s = c.in-At.cell in
@@ -54,13 +60,15 @@ copy_in-requires c =
 
 pub overflow_cast-address : goal.overflow_cast-address
 overflow_cast-address c =
-    let found : Room c.args.setup c.args.store.now c.args.lens.now (length c.args.packet.now) c.in-At.cell = room_found c.args.setup c.args.store.now c.args.lens.now c.requires (length c.args.packet.now) _ c.in-At.cell
+    let found : Room c.args.setup c.args.store.now c.args.lens.now (length c.args.packet.now) c.in-At.cell =
+    room_found c.args.setup c.args.store.now c.args.lens.now c.requires (length c.args.packet.now) _ c.in-At.cell
     (c.choose-spot.ensures c.args.store.now) c.in-At.is in
     let k = found in omega (arith, k.inside.pool_fits, k.inside.few_pools)
 
 pub overflow_cast-address-in-At : goal.overflow_cast-address-in-At
 overflow_cast-address-in-At c =
-    let found : Room c.args.setup c.args.store.now c.args.lens.now (length c.args.packet.now) c.in-At.cell = room_found c.args.setup c.args.store.now c.args.lens.now c.requires (length c.args.packet.now) _ c.in-At.cell
+    let found : Room c.args.setup c.args.store.now c.args.lens.now (length c.args.packet.now) c.in-At.cell =
+    room_found c.args.setup c.args.store.now c.args.lens.now c.requires (length c.args.packet.now) _ c.in-At.cell
     (c.choose-spot.ensures c.args.store.now) c.in-At.is in
     let k = found in
     omega (arith, k.inside.slot_fits, k.inside.few_slots)
@@ -70,7 +78,8 @@ returns-in-Refused c = add_refused _ _ _ _ _ _ (c.choose-spot.ensures _) c.in-Re
 
 pub returns-in-At : goal.returns-in-At
 returns-in-At c =
-    let found : Room c.args.setup c.args.store.now c.args.lens.now (length c.args.packet.now) c.in-At.cell = room_found c.args.setup c.args.store.now c.args.lens.now c.requires (length c.args.packet.now) _ c.in-At.cell
+    let found : Room c.args.setup c.args.store.now c.args.lens.now (length c.args.packet.now) c.in-At.cell =
+    room_found c.args.setup c.args.store.now c.args.lens.now c.requires (length c.args.packet.now) _ c.in-At.cell
     (c.choose-spot.ensures c.args.store.now) c.in-At.is in
     let s = c.in-At.cell in
     add_at _ _ _ _ c.requires _ found _ _ _ c.encode.ensures

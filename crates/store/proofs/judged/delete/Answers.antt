@@ -12,25 +12,29 @@ locate-spot-requires c = let h = bounds c.requires in (h.few_pools, h.rows_fit)
 
 pub overflow_add-end : goal.overflow_add-end
 overflow_add-end c =
-    let found : PacketAt c.args.setup c.args.store.now c.args.lens.now c.args.addr c.in-At.cell = packet_found c.args.setup c.args.store.now c.args.lens.now c.requires c.args.addr _ c.in-At.cell
+    let found : PacketAt c.args.setup c.args.store.now c.args.lens.now c.args.addr c.in-At.cell =
+    packet_found c.args.setup c.args.store.now c.args.lens.now c.requires c.args.addr _ c.in-At.cell
     (c.locate-spot.ensures c.args.store.now) c.in-At.is in
     omega (arith, found.inside.bytes_fit)
 
 pub offset_bounds-lens-row : goal.offset_bounds-lens-row
 offset_bounds-lens-row c =
-    let found : PacketAt c.args.setup c.args.store.now c.args.lens.now c.args.addr c.in-At.cell = packet_found c.args.setup c.args.store.now c.args.lens.now c.requires c.args.addr _ c.in-At.cell
+    let found : PacketAt c.args.setup c.args.store.now c.args.lens.now c.args.addr c.in-At.cell =
+    packet_found c.args.setup c.args.store.now c.args.lens.now c.requires c.args.addr _ c.in-At.cell
     (c.locate-spot.ensures c.args.store.now) c.in-At.is in
     omega (arith, found.inside.row_fits)
 
 pub bounds-lens-row : goal.bounds-lens-row
 bounds-lens-row c =
-    let found : PacketAt c.args.setup c.args.store.now c.args.lens.now c.args.addr c.in-At.cell = packet_found c.args.setup c.args.store.now c.args.lens.now c.requires c.args.addr _ c.in-At.cell
+    let found : PacketAt c.args.setup c.args.store.now c.args.lens.now c.args.addr c.in-At.cell =
+    packet_found c.args.setup c.args.store.now c.args.lens.now c.requires c.args.addr _ c.in-At.cell
     (c.locate-spot.ensures c.args.store.now) c.in-At.is in
     found.inside.row_fits
 
 pub slice_bounds-zero_fill-end : goal.slice_bounds-zero_fill-end
 slice_bounds-zero_fill-end c =
-    let found : PacketAt c.args.setup c.args.store.now c.args.lens.now c.args.addr c.in-At.cell = packet_found c.args.setup c.args.store.now c.args.lens.now c.requires c.args.addr _ c.in-At.cell
+    let found : PacketAt c.args.setup c.args.store.now c.args.lens.now c.args.addr c.in-At.cell =
+    packet_found c.args.setup c.args.store.now c.args.lens.now c.requires c.args.addr _ c.in-At.cell
     (c.locate-spot.ensures c.args.store.now) c.in-At.is in
     found.inside.bytes_fit
 
@@ -39,7 +43,8 @@ returns-in-Refused c = delete_refused _ _ _ _ _ _ (c.locate-spot.ensures _) c.in
 
 pub returns-in-At : goal.returns-in-At
 returns-in-At c =
-    let found : PacketAt c.args.setup c.args.store.now c.args.lens.now c.args.addr c.in-At.cell = packet_found c.args.setup c.args.store.now c.args.lens.now c.requires c.args.addr _ c.in-At.cell
+    let found : PacketAt c.args.setup c.args.store.now c.args.lens.now c.args.addr c.in-At.cell =
+    packet_found c.args.setup c.args.store.now c.args.lens.now c.requires c.args.addr _ c.in-At.cell
     (c.locate-spot.ensures c.args.store.now) c.in-At.is in
     let k = found in
     delete_at _ _ _ _ c.requires _ k _ _

@@ -12,13 +12,15 @@ choose-spot-requires c =
 
 pub overflow_cast-address : goal.overflow_cast-address
 overflow_cast-address c =
-    let found : Room c.args.setup c.args.store.now c.args.lens.now (length c.args.packet.now) c.in-At.cell = room_found c.args.setup c.args.store.now c.args.lens.now c.requires (length c.args.packet.now) _ c.in-At.cell
+    let found : Room c.args.setup c.args.store.now c.args.lens.now (length c.args.packet.now) c.in-At.cell =
+    room_found c.args.setup c.args.store.now c.args.lens.now c.requires (length c.args.packet.now) _ c.in-At.cell
     (c.choose-spot.ensures c.args.store.now) c.in-At.is in
     let k = found in omega (arith, k.inside.pool_fits, k.inside.few_pools)
 
 pub overflow_cast-address-in-At : goal.overflow_cast-address-in-At
 overflow_cast-address-in-At c =
-    let found : Room c.args.setup c.args.store.now c.args.lens.now (length c.args.packet.now) c.in-At.cell = room_found c.args.setup c.args.store.now c.args.lens.now c.requires (length c.args.packet.now) _ c.in-At.cell
+    let found : Room c.args.setup c.args.store.now c.args.lens.now (length c.args.packet.now) c.in-At.cell =
+    room_found c.args.setup c.args.store.now c.args.lens.now c.requires (length c.args.packet.now) _ c.in-At.cell
     (c.choose-spot.ensures c.args.store.now) c.in-At.is in
     let k = found in omega (arith, k.inside.slot_fits, k.inside.few_slots)
 
@@ -29,7 +31,8 @@ returns-in-Refused c =
 
 pub returns-in-At : goal.returns-in-At
 returns-in-At c =
-    let found : Room c.args.setup c.args.store.now c.args.lens.now (length c.args.packet.now) c.in-At.cell = room_found c.args.setup c.args.store.now c.args.lens.now c.requires (length c.args.packet.now) _ c.in-At.cell
+    let found : Room c.args.setup c.args.store.now c.args.lens.now (length c.args.packet.now) c.in-At.cell =
+    room_found c.args.setup c.args.store.now c.args.lens.now c.requires (length c.args.packet.now) _ c.in-At.cell
     (c.choose-spot.ensures c.args.store.now) c.in-At.is in
     add_says c.args.setup c.args.store.now c.args.lens.now c.args.packet.now c.in-At.cell found
     _ c.encode.ensures
