@@ -1,4 +1,3 @@
 -- The rules of the deletions by request ID.
 pub mod ById
 pub mod Answers
-pub mod Inside

@@ -1,5 +1,5 @@
 -- Exclusive-or passes through the feeding of bytes.
-use Prim.Native.Nat.{◌%◌, ◌*◌, ◌/◌, ◌<◌, ◌^◌, suc, zero, ℕ}
+use Prim.Native.Nat.{◌%◌, ◌*◌, ◌/◌, ◌<◌, suc, zero, ℕ}
 use Rattle.check_code.proofs.Linear.{Linear, after, both, down, low, swap, up}
 use Rattle.check_code.specs.CheckCode.{feed, shift, shifts}
 use Rattle.check_code.specs.Inside.{feed4, feed8}
@@ -55,7 +55,7 @@ then : (g : ℕ → ℕ → ℕ) (h : ℕ → ℕ) → Linear₂ g → Linear h 
 then g h lg lh c d w v = ap₂ feed_any (lg c d w v) (lh w v) ∙ feed_linear (g c w) (g d v) (h w) (h v)
 
 unfoldable pub feed_any4 : ℕ → ℕ → ℕ
-feed_any4 c w = feed_any (feed_any (feed_any (feed_any c (w / 16777216)) (w / 65536 % 256)) (w / 256 % 256)) (w % 256)
+feed_any4 c w = feed_any (feed_any (feed_any (feed_any c (w / 16777216 % 256)) (w / 65536 % 256)) (w / 256 % 256)) (w % 256)
 
 unfoldable pub feed_any8 : ℕ → ℕ → ℕ
 feed_any8 c w = feed_any4 (feed_any4 c (w / 4294967296)) (w % 4294967296)
@@ -63,10 +63,11 @@ feed_any8 c w = feed_any4 (feed_any4 c (w / 4294967296)) (w % 4294967296)
 pub linear4 : Linear₂ feed_any4
 unfolding feed_any4
 linear4 =
-    then (λ (c w : ℕ). feed_any (feed_any (feed_any c (w / 16777216)) (w / 65536 % 256)) (w / 256 % 256)) (λ (w : ℕ). w % 256)
-    (then (λ (c w : ℕ). feed_any (feed_any c (w / 16777216)) (w / 65536 % 256)) (λ (w : ℕ). w / 256 % 256)
-    (then (λ (c w : ℕ). feed_any c (w / 16777216)) (λ (w : ℕ). w / 65536 % 256)
-    (then (λ (c w : ℕ). c) (λ (w : ℕ). w / 16777216) (λ c d w v. refl) (down 24))
+    then (λ (c w : ℕ). feed_any (feed_any (feed_any c (w / 16777216 % 256)) (w / 65536 % 256)) (w / 256 % 256)) (λ (w : ℕ). w % 256)
+    (then (λ (c w : ℕ). feed_any (feed_any c (w / 16777216 % 256)) (w / 65536 % 256)) (λ (w : ℕ). w / 256 % 256)
+    (then (λ (c w : ℕ). feed_any c (w / 16777216 % 256)) (λ (w : ℕ). w / 65536 % 256)
+    (then (λ (c w : ℕ). c) (λ (w : ℕ). w / 16777216 % 256) (λ c d w v. refl)
+    (after (λ (x : ℕ). x % 256) (λ (x : ℕ). x / 16777216) (low 8) (down 24)))
     (after (λ (x : ℕ). x % 256) (λ (x : ℕ). x / 65536) (low 8) (down 16)))
     (after (λ (x : ℕ). x % 256) (λ (x : ℕ). x / 256) (low 8) (down 8)))
     (low 8)
@@ -96,22 +97,36 @@ feed_below : (c b : ℕ) → c < 65536 → b < 256 → (feed c b ≡ feed_any c 
 unfolding feed feed_any
 feed_below c b h l = shifts_below 8 (bit_xor c (b * 256)) (xor_lt 16 c (b * 256) h (omega arith))
 
-pub below4 : (c w : ℕ) → c < 65536 → w < 4294967296 → (feed4 c w ≡ feed_any4 c w) × (feed4 c w < 65536)
+pub below4 : (c w : ℕ) → c < 65536 → (feed4 c w ≡ feed_any4 c w) × (feed4 c w < 65536)
 unfolding feed4 feed_any4
-below4 c w h l =
-    let p = feed_below c (w / 16777216) h (omega arith) in
-    let q = feed_below (feed c (w / 16777216)) (w / 65536 % 256) p.1 (omega arith) in
-    let r = feed_below (feed (feed c (w / 16777216)) (w / 65536 % 256)) (w / 256 % 256) q.1 (omega arith) in
-    let s = feed_below (feed (feed (feed c (w / 16777216)) (w / 65536 % 256)) (w / 256 % 256)) (w % 256) r.1 (omega arith) in (
-      s.0
-          ∙ ap (λ (x : ℕ). feed_any x (w % 256))
-          (r.0 ∙ ap (λ (x : ℕ). feed_any x (w / 256 % 256)) (q.0 ∙ ap (λ (x : ℕ). feed_any x (w / 65536 % 256)) p.0)),
+below4 c w h =
+    let a : ℕ = w / 16777216 % 256 in
+    let b : ℕ = w / 65536 % 256 in
+    let d : ℕ = w / 256 % 256 in
+    let p = feed_below c a h (omega arith) in
+    let q = feed_below (feed c a) b p.1 (omega arith) in
+    let r = feed_below (feed (feed c a) b) d q.1 (omega arith) in
+    let s = feed_below (feed (feed (feed c a) b) d) (w % 256) r.1 (omega arith) in (
+      s.0 ∙ ap (λ (x : ℕ). feed_any x (w % 256)) (r.0 ∙ ap (λ (x : ℕ). feed_any x d) (q.0 ∙ ap (λ (x : ℕ). feed_any x b) p.0)),
       s.1,
     )
 
-pub below8 : (c w : ℕ) → c < 65536 → w < 2 ^ 64 → (feed8 c w ≡ feed_any8 c w) × (feed8 c w < 65536)
-unfolding feed8 feed_any8
-below8 c w h l =
-    let p = below4 c (w / 4294967296) h (omega arith) in
-    let q = below4 (feed4 c (w / 4294967296)) (w % 4294967296) p.1 (omega arith) in
-    (q.0 ∙ ap (λ (x : ℕ). feed_any4 x (w % 4294967296)) p.0, q.1)
+-- eight bytes are four and four
+pub halves : (c w : ℕ) → feed8 c w ≡ feed4 (feed4 c (w / 4294967296)) (w % 4294967296)
+unfolding feed8 feed4
+halves c w =
+    let a : w / 72057594037927936 % 256 ≡ w / 4294967296 / 16777216 % 256 = omega arith in
+    let b : w / 281474976710656 % 256 ≡ w / 4294967296 / 65536 % 256 = omega arith in
+    let d : w / 1099511627776 % 256 ≡ w / 4294967296 / 256 % 256 = omega arith in
+    let e : w / 16777216 % 256 ≡ w % 4294967296 / 16777216 % 256 = omega arith in
+    let f : w / 65536 % 256 ≡ w % 4294967296 / 65536 % 256 = omega arith in
+    let g : w / 256 % 256 ≡ w % 4294967296 / 256 % 256 = omega arith in
+    let h : w % 256 ≡ w % 4294967296 % 256 = omega arith in
+    rw (a, b, d, e, f, g, h)
+
+pub below8 : (c w : ℕ) → c < 65536 → (feed8 c w ≡ feed_any8 c w) × (feed8 c w < 65536)
+unfolding feed_any8
+below8 c w h =
+    let p = below4 c (w / 4294967296) h in
+    let q = below4 (feed4 c (w / 4294967296)) (w % 4294967296) p.1 in
+    rw (halves c w) (q.0 ∙ ap (λ (x : ℕ). feed_any4 x (w % 4294967296)) p.0, q.1)

@@ -1,11 +1,10 @@
 -- Functions through which exclusive-or passes. Two of them that agree on the powers of two agree everywhere below.
 use Prim.Native.Nat.{◌%◌, ◌*◌, ◌+◌, ◌-◌, ◌/◌, ◌<◌, ◌^◌, ◌≤◌, suc, zero, ℕ}
-use Rattle.check_code.proofs.Xor.{xor_assoc}
 use Rattle.rules.proofs.All.{all_at}
 use Rattle.rules.proofs.Cases.{le_or_lt}
 use Rattle.rules.specs.Tests.{all_below}
 use borrow.Author.Tests.{eqb-true}
-use lib.Bits.{bit_xor, xor_block, xor_comm, xor_mod, xor_shifted, xor_shr}
+use lib.Bits.{bit_xor, xor_assoc, xor_block, xor_comm, xor_mod, xor_shifted, xor_shr}
 use lib.Dec.{eqb}
 use lib.Pow.{pow_pos}
 use mathlib.Core.Bool.{Bool, true}

@@ -1,4 +1,4 @@
--- Words fed to the code, over the width: what was folded goes into the next word, and a fold keeps the code where it does at each bit.
+-- Words fed to the code, of any width: what was folded goes into the next word, and a fold keeps the code where it does at each bit.
 use Prim.Native.Nat.{◌<◌, ◌^◌, ℕ}
 use Rattle.check_code.proofs.Feeding.{Linear₂}
 use Rattle.check_code.proofs.Linear.{Linear, agree, agree_at}
@@ -8,28 +8,24 @@ use mathlib.Core.Bool.{true}
 use mathlib.Core.Path.{◌∙◌, ◌≡◌, ap, ap₂, sym}
 use native.Mathlib.Omega.{arith}
 
--- k bits, what feeds them to a code, and the same of any number
-module _ (k : ℕ) (fed any : ℕ → ℕ → ℕ) (linear : Linear₂ any)
-    (below : (c w : ℕ) → c < 65536 → w < 2 ^ k → (fed c w ≡ any c w) × (fed c w < 65536)) where
-  fed_linear : (c d w v : ℕ) → c < 65536 → d < 65536 → w < 2 ^ k → v < 2 ^ k
-      → fed (bit_xor c d) (bit_xor w v) ≡ bit_xor (fed c w) (fed d v)
-  fed_linear c d w v hc hd hw hv =
-      (below (bit_xor c d) (bit_xor w v) (xor_lt 16 c d hc hd) (xor_lt k w v hw hv)).0 ∙ linear c d w v
-      ∙ sym (ap₂ bit_xor (below c w hc hw).0 (below d v hd hv).0)
+-- what feeds a word to a code, and the same of any code
+module _ (fed any : ℕ → ℕ → ℕ) (linear : Linear₂ any) (below : (c w : ℕ) → c < 65536 → (fed c w ≡ any c w) × (fed c w < 65536)) where
+  fed_linear : (c d w v : ℕ) → c < 65536 → d < 65536 → fed (bit_xor c d) (bit_xor w v) ≡ bit_xor (fed c w) (fed d v)
+  fed_linear c d w v hc hd =
+      (below (bit_xor c d) (bit_xor w v) (xor_lt 16 c d hc hd)).0 ∙ linear c d w v ∙ sym (ap₂ bit_xor (below c w hc).0 (below d v hd).0)
 
   -- what was folded to f goes into the next word v
-  pub into : (w f v : ℕ) → 0 < 2 ^ k → w < 2 ^ k → f < 2 ^ k → v < 2 ^ k
-      → fed 0 f ≡ fed (fed 0 w) 0 → fed 0 (bit_xor f v) ≡ fed (fed 0 w) v
-  into w f v h0 hw hf hv e =
-      fed_linear 0 0 f v (omega arith) (omega arith) hf hv ∙ ap (λ (x : ℕ). bit_xor x (fed 0 v)) e
-      ∙ sym (fed_linear (fed 0 w) 0 0 v (below 0 w (omega arith) hw).1 (omega arith) h0 hv)
+  pub into : (w f v : ℕ) → fed 0 f ≡ fed (fed 0 w) 0 → fed 0 (bit_xor f v) ≡ fed (fed 0 w) v
+  into w f v e =
+      fed_linear 0 0 f v (omega arith) (omega arith) ∙ ap (λ (x : ℕ). bit_xor x (fed 0 v)) e
+      ∙ sym (fed_linear (fed 0 w) 0 0 v (below 0 w (omega arith)).1 (omega arith))
       ∙ ap₂ fed (xor_zero_r (fed 0 w)) (xor_zero_l v)
 
   -- the start goes into the first word v, as s
-  pub start : (c s v : ℕ) → 0 < 2 ^ k → c < 65536 → s < 2 ^ k → v < 2 ^ k → fed 0 s ≡ fed c 0 → fed 0 (bit_xor s v) ≡ fed c v
-  start c s v h0 hc hs hv e =
-      fed_linear 0 0 s v (omega arith) (omega arith) hs hv ∙ ap (λ (x : ℕ). bit_xor x (fed 0 v)) e
-      ∙ sym (fed_linear c 0 0 v hc (omega arith) h0 hv)
+  pub start : (c s v : ℕ) → c < 65536 → fed 0 s ≡ fed c 0 → fed 0 (bit_xor s v) ≡ fed c v
+  start c s v hc e =
+      fed_linear 0 0 s v (omega arith) (omega arith) ∙ ap (λ (x : ℕ). bit_xor x (fed 0 v)) e
+      ∙ sym (fed_linear c 0 0 v hc (omega arith))
       ∙ ap₂ fed (xor_zero_r c) (xor_zero_l v)
 
   module _ (fold : ℕ → ℕ) (lf : Linear fold) where
@@ -45,9 +41,10 @@ module _ (k : ℕ) (fed any : ℕ → ℕ → ℕ) (linear : Linear₂ any)
     fed_on_linear : Linear fed_on
     fed_on_linear a b = ap (λ (x : ℕ). any x 0) (linear 0 0 a b) ∙ linear (any 0 a) (any 0 b) 0 0
 
-    pub keeps : folded 0 ≡ fed_on 0 → all_below (agree_at folded fed_on) k ≡ true → (w : ℕ) → 0 < 2 ^ k → w < 2 ^ k → fold w < 2 ^ k
+    -- of words of k bits
+    pub keeps : (k : ℕ) → folded 0 ≡ fed_on 0 → all_below (agree_at folded fed_on) k ≡ true → (w : ℕ) → w < 2 ^ k
         → fed 0 (fold w) ≡ fed (fed 0 w) 0
-    keeps z t w h0 hw hf =
-        let p = below 0 w (omega arith) hw in
-        (below 0 (fold w) (omega arith) hf).0 ∙ agree folded fed_on folded_linear fed_on_linear z k t w hw
-        ∙ sym ((below (fed 0 w) 0 p.1 h0).0 ∙ ap (λ (x : ℕ). any x 0) p.0)
+    keeps k z t w h =
+        let p = below 0 w (omega arith) in
+        (below 0 (fold w) (omega arith)).0 ∙ agree folded fed_on folded_linear fed_on_linear z k t w h
+        ∙ sym ((below (fed 0 w) 0 p.1).0 ∙ ap (λ (x : ℕ). any x 0) p.0)

@@ -1,46 +1,12 @@
 -- What the table rests on: a number below half the range goes through a shift unchanged but for moving up, so a low byte does through eight.
 use Prim.Native.Nat.{◌%◌, ◌*◌, ◌+◌, ◌/◌, ◌<◌, ◌^◌, ◌≤◌, suc, zero, ℕ}
 use Rattle.check_code.specs.CheckCode.{feed, shift, shifted8, shifts}
-use lib.Arith.{bin_ind, digits_mod}
-use lib.Bits.{bit_xor, differ, xor_block, xor_comm, xor_mod, xor_shifted, xor_shr, xor_step, xor_zero_r}
+use lib.Bits.{bit_xor, xor_assoc, xor_block, xor_comm, xor_mod, xor_shifted, xor_shr, xor_zero_r}
 use lib.Dec.{lit<, lit≤}
 use lib.Pow.{pow_mono}
-use mathlib.Core.Path.{◌∙◌, ◌≡◌, ap, ap₂, refl, sym}
+use mathlib.Core.Path.{◌∙◌, ◌≡◌, ap, ap₂, sym}
 use native.Mathlib.Nat.{add-zero, div-add-mod', lt_of_lt_of_le, mul_assoc, mul_comm, mul-one, pow-suc}
 use native.Mathlib.Omega.{arith}
-
-differ_assoc : (p q r : ℕ) → p < 2 → q < 2 → r < 2 → differ (differ p q) r ≡ differ p (differ q r)
-differ_assoc zero q r hp hq hr = refl
-differ_assoc (suc zero) zero r hp hq hr = refl
-differ_assoc (suc zero) (suc zero) zero hp hq hr = refl
-differ_assoc (suc zero) (suc zero) (suc zero) hp hq hr = refl
-differ_assoc (suc zero) (suc zero) (suc (suc r)) hp hq hr = omega arith
-differ_assoc (suc zero) (suc (suc q)) r hp hq hr = omega arith
-differ_assoc (suc (suc p)) q r hp hq hr = omega arith
-
-differ_lt : (p q : ℕ) → p < 2 → q < 2 → differ p q < 2
-differ_lt zero q hp hq = hq
-differ_lt (suc zero) zero hp hq = hp
-differ_lt (suc zero) (suc zero) hp hq = lit< tt
-differ_lt (suc zero) (suc (suc q)) hp hq = omega arith
-differ_lt (suc (suc p)) q hp hq = omega arith
-
-bit : (n : ℕ) → n % 2 < 2
-bit n = omega arith
-
-xor_odd : (a b : ℕ) → bit_xor a b % 2 ≡ differ (a % 2) (b % 2)
-xor_odd a b =
-    ap (λ (x : ℕ). x % 2) (xor_step a b)
-    ∙ digits_mod (bit_xor (a / 2) (b / 2)) (differ_lt (a % 2) (b % 2) (bit a) (bit b))
-
-pub xor_assoc : (a b c : ℕ) → bit_xor (bit_xor a b) c ≡ bit_xor a (bit_xor b c)
-xor_assoc =
-    bin_ind (λ (n : ℕ). (b c : ℕ) → bit_xor (bit_xor n b) c ≡ bit_xor n (bit_xor b c)) (λ b c. refl)
-    (λ n ih b c. xor_step (bit_xor n b) c
-    ∙ ap₂ (λ (x y : ℕ). bit_xor x (c / 2) * 2 + differ y (c % 2)) (xor_shr n b 1) (xor_odd n b)
-    ∙ ap₂ (λ (x y : ℕ). x * 2 + y) (ih (b / 2) (c / 2)) (differ_assoc (n % 2) (b % 2) (c % 2) (bit n) (bit b) (bit c))
-    ∙ sym (ap₂ (λ (x y : ℕ). bit_xor (n / 2) x * 2 + differ (n % 2) y) (xor_shr b c 1) (xor_odd b c))
-    ∙ sym (xor_step n (bit_xor b c)))
 
 xor_double : (a b : ℕ) → bit_xor (a * 2) (b * 2) ≡ bit_xor a b * 2
 xor_double a b =

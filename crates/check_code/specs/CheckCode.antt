@@ -1,6 +1,6 @@
 -- The check code, one bit at a time (document 01, module 1; ECSS-E-ST-70-41C's packet error control): CRC-16 with the
 -- polynomial 0x1021, from 0xFFFF, high bit first, nothing reflected, no final exclusive-or.
-use Rattle.std.specs.Prelude.{◌%◌, ◌*◌, ◌/◌, suc, zero, ℕ, List, [], ◌∷◌}
+use Rattle.std.specs.Prelude.{◌%◌, ◌*◌, ◌/◌, suc, zero, ℕ, List, fold}
 use Rattle.rules.specs.Lists.{each}
 use Rattle.std.specs.Int.Bits.{bit_xor}
 
@@ -17,8 +17,7 @@ unfoldable pub feed : ℕ → ℕ → ℕ
 feed c b = shifts 8 (bit_xor c (b * 256))
 
 abbrev pub feed_all : ℕ → List ℕ → ℕ
-feed_all c [] = c
-feed_all c (b ∷ bs) = feed_all (feed c b) bs
+feed_all = fold feed
 
 unfoldable pub check_code : List ℕ → ℕ
 check_code bs = feed_all 0xFFFF bs

@@ -5,31 +5,19 @@ mod requests;
 mod shift;
 
 use report::totals;
-use shift::Shift;
-use text::{input, line};
+use text::input;
+use text::line::Lines;
 
 fn main(rt: HostRuntime) {
     let mut text = input::large_buffer();
     let n = input::read_full(&mut rt.stdin(), &mut text);
-    let s = all(&rt, &text[..n]);
-    let rec = s.rec;
-    totals::show(&rt, rec.count, s.totals);
+    all(&rt, &text[..n]);
 }
 
-fn all(rt: &impl Print, text: &[u8]) -> Shift {
-    let mut store = [0u8; 160];
-    let mut lens = [65535u16; 8];
-    let mut rows = [0u64; 32];
+fn all(rt: &impl Print, text: &[u8]) {
     let mut s = shift::begun();
-    let mut at: usize = 0;
-    while at < text.len() {
-        let end = line::end(text, at, b'\n');
-        if end >= text.len() {
-            return requests::one(rt, s, &text[at..], &mut store, &mut lens, &mut rows);
-        }
-        let next = end + 1;
-        s = requests::one(rt, s, &text[at..end], &mut store, &mut lens, &mut rows);
-        at = next;
+    for line in Lines(text) {
+        requests::one(rt, &mut s, line);
     }
-    s
+    totals::show(rt, s.rec.count, s.totals);
 }

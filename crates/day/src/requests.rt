@@ -1,48 +1,55 @@
 // What a line asks for, by its first word. Its answer stands behind it in the report; a remark is copied.
 use crate::shift;
 use crate::shift::Shift;
-use record::{Changed, Record};
 use report::{answers, clock, records};
-use text::{line, out};
+use text::line::Line;
+use text::out;
 
-// The first words, by their places in `one`'s list.
-const REMARK: usize = 0;
+#[derive(Clone, Copy, PartialEq, Eq)]
+enum Request {
+    Start,
+    Uplink,
+    Clock,
+    Enable,
+    Disable,
+    Lose,
+    Tick,
+}
 
-const START: usize = 1;
-
-const UPLINK: usize = 2;
-
-const CLOCK: usize = 3;
-
-const ENABLE: usize = 4;
-
-const LOSE: usize = 6;
-
-const TICK: usize = 7;
-
-pub fn one(
-    rt: &impl Print,
-    s: Shift,
-    text: &[u8],
-    store: &mut [u8],
-    lens: &mut [u16],
-    rows: &mut [u64],
-) -> Shift {
-    let k = line::which(text, 0, b"# start uplink clock enable disable lose tick");
-    if k == REMARK {
-        remark(rt, text);
-        return s;
+fn asked_by(line: Line) -> Option<Request> {
+    match line.word(0) {
+        b"start" => Some(Request::Start),
+        b"uplink" => Some(Request::Uplink),
+        b"clock" => Some(Request::Clock),
+        b"enable" => Some(Request::Enable),
+        b"disable" => Some(Request::Disable),
+        b"lose" => Some(Request::Lose),
+        b"tick" => Some(Request::Tick),
+        _ => None,
     }
-    if k > TICK {
-        unknown(rt, text);
-        return s;
+}
+
+pub fn one(rt: &impl Print, s: &mut Shift, line: Line) {
+    if line.word(0) == b"#".as_slice() {
+        remark(rt, line.0);
+        return;
     }
-    told(rt, text);
-    if k == TICK {
-        return tick(rt, s, text, store, lens, rows);
+    let Some(asked) = asked_by(line) else {
+        unknown(rt, line.0);
+        return;
+    };
+    let (told, sent) = line.cut(b'=');
+    out::say(rt, b"  ");
+    out::say(rt, told.0);
+    match asked {
+        Request::Start => start(rt, s, line),
+        Request::Uplink => uplink(rt, s, sent),
+        Request::Clock => answers::done(rt, record::set_clock(&mut s.rec, clock::read(line, 1))),
+        Request::Enable => answers::done(rt, record::enable(&mut s.rec)),
+        Request::Disable => answers::done(rt, record::disable(&mut s.rec)),
+        Request::Lose => lose(rt, s, line.number(1)),
+        Request::Tick => tick(rt, s, line.index(1)),
     }
-    let rec = s.rec;
-    shift::with_record(s, call(rt, rec, k, text, store, lens, rows))
 }
 
 fn remark(rt: &impl Print, text: &[u8]) {
@@ -54,132 +61,65 @@ fn remark(rt: &impl Print, text: &[u8]) {
 
 fn unknown(rt: &impl Print, text: &[u8]) {
     out::say(rt, text);
-    if text.len() > 0 {
+    if !text.is_empty() {
         out::say(rt, b": no such request");
     }
     out::say(rt, b"\n");
 }
 
-// A request up to the bytes that it has.
-fn told(rt: &impl Print, text: &[u8]) {
-    let end = line::end(text, 0, b'=');
-    out::say(rt, b"  ");
-    if end <= text.len() {
-        out::say(rt, &text[0..end]);
-    }
-}
-
-fn call(
-    rt: &impl Print,
-    rec: Record,
-    k: usize,
-    text: &[u8],
-    store: &mut [u8],
-    lens: &mut [u16],
-    rows: &mut [u64],
-) -> Record {
-    if k == START {
-        let m = line::margin(text, 4);
-        return changed(
-            rt,
-            starting::fresh_start(
-                shift::setup(),
-                rec,
-                store,
-                lens,
-                rows,
-                clock::read(text, 1),
-                m,
-            ),
-        );
-    }
-    if k == UPLINK {
-        return uplink(rt, rec, text, store, lens, rows);
-    }
-    if k == LOSE {
-        let setup = shift::setup();
-        answers::deleted(
-            rt,
-            store_public::delete(setup.store, store, lens, line::number(text, 1)),
-        );
-        return rec;
-    }
-    mark(rt, rec, k, text)
-}
-
-fn mark(rt: &impl Print, rec: Record, k: usize, text: &[u8]) -> Record {
-    if k == CLOCK {
-        return changed(rt, rec.clocked(clock::read(text, 1)));
-    }
-    changed(rt, rec.marked(k == ENABLE))
-}
-
-fn changed(rt: &impl Print, c: Changed) -> Record {
-    let a = c.answer;
+fn start(rt: &impl Print, s: &mut Shift, line: Line) {
+    let setup = shift::setup();
+    let t = clock::read(line, 1);
+    let m = line.margin(4);
+    let a = starting::fresh_start(
+        setup,
+        &mut s.rec,
+        &mut s.store,
+        &mut s.lens,
+        &mut s.rows,
+        t,
+        m,
+    );
     answers::done(rt, a);
-    c.next
 }
 
 // A wrapped telecommand: its bytes stand behind the mark.
-fn uplink(
-    rt: &impl Print,
-    rec: Record,
-    text: &[u8],
-    store: &mut [u8],
-    lens: &mut [u16],
-    rows: &mut [u64],
-) -> Record {
-    let mut outer = [0u8; 128];
-    let at = line::end(text, 0, b'=');
-    if at >= text.len() {
-        return sent(rt, rec, b"", store, lens, rows);
-    }
-    let n = line::bytes(&text[at..], 1, &mut outer);
-    sent(rt, rec, &outer[..n], store, lens, rows)
-}
-
-fn sent(
-    rt: &impl Print,
-    rec: Record,
-    outer: &[u8],
-    store: &mut [u8],
-    lens: &mut [u16],
-    rows: &mut [u64],
-) -> Record {
-    let i = insertions_public::insert_wrapped_tc(shift::setup(), rec, store, lens, rows, outer);
-    let a = i.answer;
-    answers::inserted(rt, a);
-    i.next
-}
-
-// At most as many records as the line says; packets handed out are deleted. Each is told.
-fn tick(
-    rt: &impl Print,
-    s: Shift,
-    text: &[u8],
-    store: &mut [u8],
-    lens: &mut [u16],
-    rows: &mut [u64],
-) -> Shift {
-    let mut log = [0u8; 1024];
-    let limit = line::index(text, 1);
-    let rec = s.rec;
-    let t = tick_public::tick(
+fn uplink(rt: &impl Print, s: &mut Shift, sent: Line) {
+    let mut room = [0; 128];
+    let outer = sent.bytes(1, &mut room);
+    let a = insertions_public::insert_wrapped_tc(
         shift::setup(),
-        rec,
-        store,
-        lens,
-        rows,
+        &mut s.rec,
+        &mut s.store,
+        &mut s.lens,
+        &mut s.rows,
+        outer,
+    );
+    answers::inserted(rt, a);
+}
+
+// A packet that the store's own deletion takes from under the schedule.
+fn lose(rt: &impl Print, s: &mut Shift, addr: u64) {
+    let setup = shift::setup();
+    answers::deleted(
+        rt,
+        store_public::delete(setup.store, &mut s.store, &mut s.lens, addr),
+    );
+}
+
+// At most as many records as the limit says; packets handed out are deleted. Each is told.
+fn tick(rt: &impl Print, s: &mut Shift, limit: usize) {
+    let mut log = [0; 1024];
+    let a = tick_public::tick(
+        shift::setup(),
+        &mut s.rec,
+        &mut s.store,
+        &mut s.lens,
+        &mut s.rows,
         &mut log,
         limit,
         true,
     );
-    let a = t.answer;
     answers::ticked(rt, a);
-    let next = t.next;
-    let so_far = s.totals;
-    Shift {
-        rec: next,
-        totals: records::all(rt, so_far, next.clock, &log),
-    }
+    s.totals = records::all(rt, s.totals, s.rec.clock, &log);
 }

@@ -1,13 +1,16 @@
-// What a shift has: the scheduler's setup and record, and the totals so far.
+// A shift: the scheduler's record and tables, and the totals so far.
 use record::Record;
 use schedule::Setup;
 use shift_totals::Totals;
 use time::{Margin, UnixTime};
 
-#[derive(Clone, Copy)]
+#[derive(Drop)]
 pub struct Shift {
     pub rec: Record,
     pub totals: Totals,
+    pub store: [u8; 160],
+    pub lens: [u16; 8],
+    pub rows: [u64; 32],
 }
 
 // Six slots of 16 bytes, two of 32, and eight entries.
@@ -25,22 +28,16 @@ pub fn setup() -> Setup {
 
 // Nothing is scheduled, and nothing counted.
 pub fn begun() -> Shift {
-    let rec = Record {
-        count: 0,
-        clock: UnixTime { secs: 0, nanos: 0 },
-        margin: Margin { secs: 0, nanos: 0 },
-        enabled: false,
-    };
     Shift {
-        rec: rec,
-        totals: shift_totals::none(),
-    }
-}
-
-pub fn with_record(s: Shift, rec: Record) -> Shift {
-    let t = s.totals;
-    Shift {
-        rec: rec,
-        totals: t,
+        rec: Record {
+            count: 0,
+            clock: UnixTime { secs: 0, nanos: 0 },
+            margin: Margin { secs: 0, nanos: 0 },
+            enabled: false,
+        },
+        totals: Totals::default(),
+        store: [0; 160],
+        lens: [65535; 8],
+        rows: [0; 32],
     }
 }

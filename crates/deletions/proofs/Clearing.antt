@@ -1,4 +1,5 @@
 -- What a deletion of several entries comes to: by a range of rows, and by what the range is.
+use Rattle.std.specs.Prelude.{Result, Ok, Err}
 use Prim.Native.Nat.{◌+◌, ◌≤◌, ℕ}
 use lib.ListN.{drop, length, take}
 use lib.Seq.{take_all}
@@ -29,12 +30,9 @@ use Rattle.sweep.specs.Inside.{Sweeps}
 use Rattle.deletions.specs.Inside.{clear_part, left_of}
 use Rattle.schedule.specs.Promise.{Does}
 use Rattle.schedule.specs.State.{State, record_of, state_of, with_entries, with_pools}
-use Rattle.deletions.specs.declared.ClearAnswer.TheVariants.{Done, Refused}
 use Rattle.schedule.specs.declared.Setup.{Setup}
 use Rattle.sweep.specs.declared.Tally.{Tally}
 use Rattle.windows.specs.declared.TimeWindow.{TimeWindow}
-use Rattle.windows.specs.declared.Opened.{Opened}
-use Rattle.windows.specs.declared.Opened.TheVariants as O
 use Rattle.windows.proofs.Openings.{opened_at, opened_refused}
 use Rattle.schedule.proofs.Promises.{does_as, does_done, does_refused}
 
@@ -64,20 +62,20 @@ module _ (su : Setup) (r : Record) (st le ro : List ℕ) where
     pub clear_done : (t : Tally) (n : Record) (st' le' ro' : List ℕ) → p.first + p.number ≤ r.count
         → Sweeps su.store st le (take p.number (drop p.first (unpack r.count ro))) t st' le'
         → ro' ≡ after_remove ro r.count p.first p.number → n ≡ left_of r p.number b
-        → Does su r st le ro (clear_part p b) (cleared_paper (Done t)) n st' le' ro'
+        → Does su r st le ro (clear_part p b) (cleared_paper (Ok t)) n st' le' ro'
     unfolding cleared_paper cleared left gone swept_all
     clear_done t n st' le' ro' h s q e =
-        let a : cleared_paper (Done t) ≡ no 0 (tally swept_all) = ap (λ (x : Swept). no 0 (tally x)) s.told in
+        let a : cleared_paper (Ok t) ≡ no 0 (tally swept_all) = ap (λ (x : Swept). no 0 (tally x)) s.told in
         rw (a, e ∙ sym (next_is h))
         (does_done su r st le ro (clear_part p b) (tally swept_all) cleared st' le' ro' clear_is s.lists q)
 
-  module _ (w : TimeWindow) (o : Opened) (h : Opens w o) where
-    pub window_refused : (e : ScheduleRefusal) → o ≡ O.Refused e
-        → Does su r st le ro (delete_window_in w) (cleared_paper (Refused e)) r st le ro
+  module _ (w : TimeWindow) (o : Result MomentWindow ScheduleRefusal) (h : Opens w o) where
+    pub window_refused : (e : ScheduleRefusal) → o ≡ Err e
+        → Does su r st le ro (delete_window_in w) (cleared_paper (Err e)) r st le ro
     unfolding delete_window_in cleared_paper
     window_refused e q = does_refused su r st le ro (delete_window_in w) (paper e) (opened_refused w _ o h e q)
 
-    window_is : (x : MomentWindow) (p : Part) → o ≡ O.At x → ordered (unpack r.count ro) ≡ true
+    window_is : (x : MomentWindow) (p : Part) → o ≡ Ok x → ordered (unpack r.count ro) ≡ true
         → p.first ≡ first_row x (unpack r.count ro) → p.number ≡ length (in_window x (unpack r.count ro))
         → clear_part p r.enabled (state_of su r st le ro) ≡ delete_window_in w (state_of su r st le ro)
     unfolding clear_part delete_window_in state_of
@@ -87,7 +85,7 @@ module _ (su : Setup) (r : Record) (st le ro : List ℕ) where
         let v : without p.first p.number es ≡ outside x es = rw (f, n) (sym (window_rows es k x)) in
         ap₂ (λ (a b : List Entry). clear_in a b (state_of su r st le ro)) g v ∙ sym (opened_at w _ o h x q).0
 
-    pub window_done : (x : MomentWindow) (p : Part) (a : Paper) (n : Record) (st' le' ro' : List ℕ) → o ≡ O.At x
+    pub window_done : (x : MomentWindow) (p : Part) (a : Paper) (n : Record) (st' le' ro' : List ℕ) → o ≡ Ok x
         → ordered (unpack r.count ro) ≡ true
         → p.first ≡ first_row x (unpack r.count ro) → p.number ≡ length (in_window x (unpack r.count ro))
         → Does su r st le ro (clear_part p r.enabled) a n st' le' ro' → Does su r st le ro (delete_window_in w) a n st' le' ro'

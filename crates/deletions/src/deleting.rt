@@ -1,54 +1,48 @@
 // The deletions of several entries for a caller that has judged: by window, and all of them.
-ghost use Rattle.std.specs.Prelude.{◌+◌, ◌≤◌, ◌≡◌};
+ghost use Rattle.std.specs.Prelude.{◌+◌, ◌≤◌, Ok};
 ghost use Rattle.deletions.specs.Answers.{cleared_paper};
 ghost use Rattle.deletions.specs.Deleting.{delete_window_in, reset_in};
-ghost use Rattle.deletions.specs.Inside.{clear_part, left_of};
+ghost use Rattle.deletions.specs.Inside.{clear_part};
 ghost use Rattle.schedule.specs.Judge.{Sound};
 ghost use Rattle.schedule.specs.Promise.{Does};
 
-use crate::{ClearAnswer, Cleared};
-use record::Record;
+use record::{Record, ScheduleRefusal};
 use schedule::Setup;
 use selection::Part;
-use windows::{Opened, TimeWindow};
+use sweep::Tally;
+use windows::TimeWindow;
 
 pub fn delete_by_time_filter(
     setup: Setup,
-    rec: Record,
+    rec: &mut Record,
     store: &mut [u8],
     lens: &mut [u16],
     rows: &mut [u64],
     w: TimeWindow,
-) -> Cleared
-    requires { Sound setup rec store.old lens.old rows.old }
-    ensures { Does setup rec store.old lens.old rows.old
+) -> Result<Tally, ScheduleRefusal>
+    requires { Sound setup rec.old store.old lens.old rows.old }
+    ensures { Does setup rec.old store.old lens.old rows.old
         (delete_window_in w)
-        (cleared_paper result.answer) result.next store.new lens.new rows.new }
+        (cleared_paper result) rec.new store.new lens.new rows.new }
 {
-    let o = windows::open(w);
-    match o {
-        Opened::Refused(e) => Cleared {
-            next: rec,
-            answer: ClearAnswer::Refused(e),
-        },
-        Opened::At(x) => {
-            let part = selection::window::rows_in(rows, rec.count, x);
-            clear(setup, rec, store, lens, rows, part, rec.enabled)
-        }
-    }
+    let x = windows::open(w)?;
+    let part = selection::window::rows_in(rows, rec.count, x);
+    let enabled = rec.enabled;
+    Ok(clear(setup, rec, store, lens, rows, part, enabled))
 }
 
+// It refuses nothing.
 pub fn reset(
     setup: Setup,
-    rec: Record,
+    rec: &mut Record,
     store: &mut [u8],
     lens: &mut [u16],
     rows: &mut [u64],
-) -> Cleared
-    requires { Sound setup rec store.old lens.old rows.old }
-    ensures { Does setup rec store.old lens.old rows.old
+) -> Tally
+    requires { Sound setup rec.old store.old lens.old rows.old }
+    ensures { Does setup rec.old store.old lens.old rows.old
         reset_in
-        (cleared_paper result.answer) result.next store.new lens.new rows.new }
+        (cleared_paper (Ok result)) rec.new store.new lens.new rows.new }
 {
     let all = Part {
         first: 0,
@@ -60,40 +54,23 @@ pub fn reset(
 // The entries of a range of rows go, with their packets.
 fn clear(
     setup: Setup,
-    rec: Record,
+    rec: &mut Record,
     store: &mut [u8],
     lens: &mut [u16],
     rows: &mut [u64],
     part: Part,
     enabled: bool,
-) -> Cleared
-    requires sound { Sound setup rec store.old lens.old rows.old }
-    requires number_bound { part.first + part.number ≤ rec.count }
-    ensures { Does setup rec store.old lens.old rows.old
+) -> Tally
+    requires sound { Sound setup rec.old store.old lens.old rows.old }
+    requires number_bound { part.first + part.number ≤ rec.old.count }
+    ensures { Does setup rec.old store.old lens.old rows.old
         (clear_part part enabled)
-        (cleared_paper result.answer) result.next store.new lens.new rows.new }
+        (cleared_paper (Ok result)) rec.new store.new lens.new rows.new }
 {
-    let s = setup.store;
     let n = rec.count;
-    let t = sweep::sweep(s, store, lens, rows, n, part);
+    let tally = sweep::sweep(setup.store, store, lens, rows, n, part);
     table_edit::remove(rows, n, part.first, part.number);
-    Cleared {
-        next: left(rec, part.number, enabled),
-        answer: ClearAnswer::Done(t),
-    }
-}
-
-// The record with n entries fewer.
-fn left(rec: Record, n: usize, enabled: bool) -> Record
-    requires { n ≤ rec.count }
-    ensures { result ≡ left_of rec n enabled }
-{
-    let clock = rec.clock;
-    let margin = rec.margin;
-    Record {
-        count: rec.count - n,
-        clock: clock,
-        margin: margin,
-        enabled: enabled,
-    }
+    rec.count = n - part.number;
+    rec.enabled = enabled;
+    tally
 }

@@ -11,10 +11,11 @@ ghost use Rattle.windows.specs.Answers.{retrieved_paper};
 ghost use Rattle.deletions.specs.Deleting.{delete_window_in, reset_in};
 ghost use Rattle.windows.specs.Windowing.{retrieve_in};
 
-use deletions::{ClearAnswer, Cleared};
-use record::Record;
-use schedule::{Setup, Verdict};
-use windows::{Retrieved, TimeWindow};
+use record::{Record, ScheduleRefusal};
+use schedule::Setup;
+use selection::Part;
+use sweep::Tally;
+use windows::TimeWindow;
 
 // The rows of a window: the first and how many; row 0 where there are none.
 pub fn retrieve_by_time_filter(
@@ -24,60 +25,43 @@ pub fn retrieve_by_time_filter(
     lens: &[u16],
     rows: &[u64],
     w: TimeWindow,
-) -> Retrieved
+) -> Result<Part, ScheduleRefusal>
     ensures { retrieved_paper result
         ≡ says (judging setup rec store.now lens.now rows.now (retrieve_in w)) }
 {
-    let j = schedule::judge(setup, rec, store, lens, rows);
-    match j {
-        Verdict::Refused(e) => Retrieved::Refused(e),
-        Verdict::Fine => windows::judged::retrieve_by_time_filter(rows, rec.count, w),
-    }
+    schedule::judge(setup, rec, store, lens, rows)?;
+    windows::judged::retrieve_by_time_filter(rows, rec.count, w)
 }
 
 // The entries of a window go, with their packets. A packet that is missing is counted, and its entry goes all the same.
 pub fn delete_by_time_filter(
     setup: Setup,
-    rec: Record,
+    rec: &mut Record,
     store: &mut [u8],
     lens: &mut [u16],
     rows: &mut [u64],
     w: TimeWindow,
-) -> Cleared
-    ensures { Writes setup rec store.old lens.old rows.old
-        (judging setup rec store.old lens.old rows.old (delete_window_in w))
-        (cleared_paper result.answer) result.next store.new lens.new rows.new }
+) -> Result<Tally, ScheduleRefusal>
+    ensures { Writes setup rec.old store.old lens.old rows.old
+        (judging setup rec.old store.old lens.old rows.old (delete_window_in w))
+        (cleared_paper result) rec.new store.new lens.new rows.new }
 {
-    let j = schedule::judge(setup, rec, store, lens, rows);
-    match j {
-        Verdict::Refused(e) => Cleared {
-            next: rec,
-            answer: ClearAnswer::Refused(e),
-        },
-        Verdict::Fine => deletions::deleting::delete_by_time_filter(
-            setup, rec, store, lens, rows, w,
-        ),
-    }
+    schedule::judge(setup, *rec, store, lens, rows)?;
+    deletions::deleting::delete_by_time_filter(setup, rec, store, lens, rows, w)
 }
 
 // Every entry goes, with its packet, and the scheduler is disabled.
 pub fn reset(
     setup: Setup,
-    rec: Record,
+    rec: &mut Record,
     store: &mut [u8],
     lens: &mut [u16],
     rows: &mut [u64],
-) -> Cleared
-    ensures { Writes setup rec store.old lens.old rows.old
-        (judging setup rec store.old lens.old rows.old reset_in)
-        (cleared_paper result.answer) result.next store.new lens.new rows.new }
+) -> Result<Tally, ScheduleRefusal>
+    ensures { Writes setup rec.old store.old lens.old rows.old
+        (judging setup rec.old store.old lens.old rows.old reset_in)
+        (cleared_paper result) rec.new store.new lens.new rows.new }
 {
-    let j = schedule::judge(setup, rec, store, lens, rows);
-    match j {
-        Verdict::Refused(e) => Cleared {
-            next: rec,
-            answer: ClearAnswer::Refused(e),
-        },
-        Verdict::Fine => deletions::deleting::reset(setup, rec, store, lens, rows),
-    }
+    schedule::judge(setup, *rec, store, lens, rows)?;
+    Ok(deletions::deleting::reset(setup, rec, store, lens, rows))
 }

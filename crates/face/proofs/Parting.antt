@@ -1,4 +1,5 @@
 -- Where a packet's bytes lie, from the store's search.
+use Rattle.std.specs.Prelude.{Result, Ok, Err}
 use Prim.Native.Nat.{ℕ}
 use Rattle.rules.specs.Papers.{Outcome, Paper, done, no, refused, says}
 use Rattle.lookup.proofs.Judging.{judging_fine}
@@ -11,8 +12,6 @@ use Rattle.slots.specs.View.{view}
 use Rattle.layout.specs.declared.Setup.{Setup}
 use Rattle.lookup.specs.declared.Span.{Span}
 use Rattle.slots.specs.declared.StoreRefusal.{StoreRefusal}
-use Rattle.lookup.specs.declared.Whereabouts.{Whereabouts}
-use Rattle.lookup.specs.declared.Whereabouts.TheVariants as W
 use Rattle.face_words.proofs.Told.{two_is}
 use Rattle.face_words.specs.Inside.{words_of}
 use Rattle.face.specs.StoreFace.{part_in}
@@ -42,19 +41,19 @@ found_part a k no_slot m bs e = let z : ◌≡◌ {A = ℕ} 0 1 = cc in absurd (
 found_part a k vacant m bs e = let z : ◌≡◌ {A = ℕ} 0 1 = cc in absurd (omega arith)
 found_part a k (held n b) m bs e = cc
 
-module _ (su : Setup) (st le : List ℕ) (a : ℕ) (s : Sound su st le) (r : Whereabouts) (f : Finds su st le a r) where
+module _ (su : Setup) (st le : List ℕ) (a : ℕ) (s : Sound su st le) (r : Result Span StoreRefusal) (f : Finds su st le a r) where
   whole : judging su st le (part_in a su) ≡ Placed a (packet_start su a) (find (view su st le) a)
   unfolding part_in
   whole = judging_fine su st le (part_in a su) s
 
-  pub part_refused : (e : StoreRefusal) (w : Words) → r ≡ W.Refused e → w ≡ words_of (paper e) → w ≡ words_of (says (judging su st le
+  pub part_refused : (e : StoreRefusal) (w : Words) → r ≡ Err e → w ≡ words_of (paper e) → w ≡ words_of (says (judging su st le
       (part_in a su)))
   unfolding packet_in found_as says
   part_refused e w q h =
       let g : refused (paper e) ≡ Packet a (find (view su st le) a) = rw q at f.same in
       rw (whole, refused_part a (packet_start su a) (find (view su st le) a) (paper e) g) h
 
-  pub part_found : (v : Span) (w : Words) (x y : ℕ) → r ≡ W.At v → w ≡ words_of (no 0 (x ∷ y ∷ [])) → x ≡ v.from → y ≡ v.len
+  pub part_found : (v : Span) (w : Words) (x y : ℕ) → r ≡ Ok v → w ≡ words_of (no 0 (x ∷ y ∷ [])) → x ≡ v.from → y ≡ v.len
       → w ≡ words_of (says (judging su st le (part_in a su)))
   unfolding packet_in found_as says
   part_found v w x y q h i j =

@@ -1,4 +1,5 @@
 -- `part` and what the caller then writes, over the store: it is what modify answers and leaves.
+use Rattle.std.specs.Prelude.{Ok}
 use Prim.Native.Nat.{ℕ}
 use Rattle.address.specs.Address.{address_of, pool_of, slot_of}
 use Rattle.face.specs.Face.{Answers, roomy}
@@ -14,7 +15,6 @@ use Rattle.lookup.proofs.Packets.{packet_there}
 use Rattle.lookup.specs.Calls.{if_held, if_named, judging, packet_in}
 use Rattle.lookup.specs.Promise.{Finds, found_as, packet_start}
 use Rattle.lookup.specs.declared.Span.{Span}
-use Rattle.lookup.specs.declared.Whereabouts.TheVariants as Wh
 use Rattle.rules.specs.Papers.{Outcome, Paper, after, done, judged_by, no, refused, says}
 use Rattle.rules.specs.Tests.{unless}
 use Rattle.slots.proofs.Lists.{part_length}
@@ -39,7 +39,7 @@ done_both : (m n : ℕ) (b c : List ℕ) → done (m ∷ []) b ≡ done (n ∷ [
 done_both m n b c e = (cc, cc)
 
 module _ (su : Setup) (st le : List ℕ) (a : ℕ) where
-  found : (s : Span) → Finds su st le a (Wh.At s) → (n : ℕ) (b : List ℕ) → packet_in (view su st le) a ≡ done (n ∷ []) b
+  found : (s : Span) → Finds su st le a (Ok s) → (n : ℕ) (b : List ℕ) → packet_in (view su st le) a ≡ done (n ∷ []) b
       → (b ≡ part (packet_start su a) n st) × (length b ≡ n)
   unfolding found_as
   found s f n b e =

@@ -3,6 +3,8 @@ use Prim.Native.Nat.{◌<◌, ◌≤◌, ℕ}
 use Rattle.face_reading.specs.Inside.{Stands, clipped}
 use Rattle.face_reading.specs.Reading.{record_from, signed, switched, word}
 use Rattle.record.specs.Record.{times_in_range}
+use Rattle.std.specs.Prelude.{Err, Ok, Result}
+use Rattle.std.specs.Result.{OkIff, result_unwrap_or}
 use Rattle.rules.proofs.All.{and_left, and_right}
 use Rattle.time.specs.Time.{giga, secs_in_range}
 use borrow.Author.Tests.{le-ltb, lt-ltb, ltb-false, ltb-true}
@@ -18,6 +20,12 @@ use Rattle.record.specs.declared.Record.{Record}
 clip_same : (w : ℕ) → ltb w giga ≡ true → clipped w ≡ w
 unfolding clipped
 clip_same w e = let l : w < 4294967296 = omega (arith, ltb-true w giga e) in simp (lt-ltb w 4294967296 l)
+
+-- a word that is no u32 leaves the most that is one
+pub clip_is : {E : Type 0} (r : Result ℕ E) (w : ℕ) → OkIff r (w < 4294967296) w → result_unwrap_or r 4294967295 ≡ clipped w
+unfolding clipped
+clip_is (Ok x) w f = rw (lt-ltb w 4294967296 f.0) f.1
+clip_is (Err e) w f = rw (le-ltb w 4294967296 (omega (arith, f))) refl
 
 clip_test : (w : ℕ) → ltb (clipped w) giga ≡ ltb w giga
 unfolding clipped

@@ -18,23 +18,17 @@ const TOO_WIDE: u64 = 65536;
 pub fn word(words: &[u64], i: usize) -> u64
     ensures { result ≡ word_at words.now i }
 {
-    if i < words.len() {
-        return words[i];
-    }
-    0
+    words.get(i).copied().unwrap_or(0)
 }
 
 // Whether the words of all subpools fit their fields.
 fn is_narrow(words: &[u64]) -> bool
     ensures { result ≡ narrow words.now }
 {
-    let mut i: usize = 0;
-    while i < 16 {
-        let w = word(words, 3 + i);
-        if w >= TOO_WIDE {
+    for i in 0..16 {
+        if word(words, 3 + i) >= TOO_WIDE {
             return false;
         }
-        i += 1;
     }
     true
 }
@@ -84,8 +78,8 @@ fn bad_setup() -> layout::Setup
 {
     layout::Setup {
         pools: 0,
-        sizes: [0, 0, 0, 0, 0, 0, 0, 0],
-        slots: [0, 0, 0, 0, 0, 0, 0, 0],
+        sizes: [0; 8],
+        slots: [0; 8],
         spill: false,
     }
 }
@@ -102,18 +96,14 @@ pub fn store_setup(words: &[u64]) -> layout::Setup
     if words.len() != 3 + 2 * n {
         return bad_setup();
     }
-    let fits = is_narrow(words);
-    if !fits {
+    if !is_narrow(words) {
         return bad_setup();
     }
-    let slots = column(words, 3);
-    let sizes = column(words, 4);
-    let spill = is_on(word(words, 1));
     layout::Setup {
         pools: n,
-        sizes: sizes,
-        slots: slots,
-        spill: spill,
+        sizes: column(words, 4),
+        slots: column(words, 3),
+        spill: is_on(word(words, 1)),
     }
 }
 
@@ -121,11 +111,9 @@ pub fn store_setup(words: &[u64]) -> layout::Setup
 pub fn setup(words: &[u64]) -> Setup
     ensures { ReadsSetup words.now result }
 {
-    let s = store_setup(words);
-    let n = word(words, 2);
     Setup {
-        store: s,
-        entries: n as usize,
+        store: store_setup(words),
+        entries: word(words, 2) as usize,
     }
 }
 
@@ -133,41 +121,31 @@ pub fn setup(words: &[u64]) -> Setup
 pub fn signed(w: u64) -> i64
     ensures { result ≡ signedWord w }
 {
-    if w < 9223372036854775808 {
-        return w as i64;
-    }
-    let k = 18446744073709551615 - w;
-    -1 - (k as i64)
+    w.cast_signed()
 }
 
 // Nanoseconds: a word that does not fit is out of range, and so is what is taken for it.
 fn nanos(w: u64) -> u32
     ensures { result ≡ clipped w }
 {
-    if w < 4294967296 {
-        return w as u32;
-    }
-    4294967295
+    u32::try_from(w).unwrap_or(u32::MAX)
 }
 
 // The record.
 pub fn record(words: &[u64]) -> Record
     ensures { Stands (record_from words.now) result }
 {
-    let clock = UnixTime {
-        secs: signed(word(words, 1)),
-        nanos: nanos(word(words, 2)),
-    };
-    let margin = Margin {
-        secs: word(words, 3),
-        nanos: nanos(word(words, 4)),
-    };
-    let enabled = is_on(word(words, 5));
     Record {
         count: word(words, 0) as usize,
-        clock: clock,
-        margin: margin,
-        enabled: enabled,
+        clock: UnixTime {
+            secs: signed(word(words, 1)),
+            nanos: nanos(word(words, 2)),
+        },
+        margin: Margin {
+            secs: word(words, 3),
+            nanos: nanos(word(words, 4)),
+        },
+        enabled: is_on(word(words, 5)),
     }
 }
 
@@ -175,24 +153,17 @@ pub fn record(words: &[u64]) -> Record
 pub fn time(secs: i64, nanos: u32) -> UnixTime
     ensures { result ≡ record { secs = secs; nanos = nanos } }
 {
-    UnixTime {
-        secs: secs,
-        nanos: nanos,
-    }
+    UnixTime { secs, nanos }
 }
 
 // A window: an end that it has not is not looked at.
 pub fn window(has_from: bool, from: UnixTime, has_to: bool, to: UnixTime) -> TimeWindow
     ensures { result ≡ window_from has_from from has_to to }
 {
-    if has_from {
-        if has_to {
-            return TimeWindow::FromTo(from, to);
-        }
-        return TimeWindow::From(from);
+    match (has_from, has_to) {
+        (true, true) => TimeWindow::FromTo(from, to),
+        (true, false) => TimeWindow::From(from),
+        (false, true) => TimeWindow::To(to),
+        (false, false) => TimeWindow::All,
     }
-    if has_to {
-        return TimeWindow::To(to);
-    }
-    TimeWindow::All
 }

@@ -33,10 +33,9 @@ pub fn tick(
     if record.len() < 6 {
         return schedule_answers::short(answer, su);
     }
-    let r = face_reading::record(record);
+    let mut r = face_reading::record(record);
     let most = limit as usize;
-    let c = tick_public::tick(su, r, store, lens, rows, log, most, delete_packets);
-    let a = c.answer;
+    let a = tick_public::tick(su, &mut r, store, lens, rows, log, most, delete_packets);
     let w = schedule_answers::ticked(a);
-    telling::with_count(record, c.next.count, answer, w)
+    telling::with_count(record, r.count, answer, w)
 }

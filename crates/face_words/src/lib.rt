@@ -20,8 +20,8 @@ pub fn none(number: u32) -> Words
     ensures { result ≡ words_of (no number []) }
 {
     Words {
-        number: number,
-        values: [0, 0, 0, 0, 0, 0, 0, 0],
+        number,
+        values: [0; 8],
     }
 }
 
@@ -29,7 +29,7 @@ pub fn one(number: u32, a: u64) -> Words
     ensures { result ≡ words_of (no number (a ∷ [])) }
 {
     Words {
-        number: number,
+        number,
         values: [a, 0, 0, 0, 0, 0, 0, 0],
     }
 }
@@ -38,43 +38,14 @@ pub fn two(number: u32, a: u64, b: u64) -> Words
     ensures { result ≡ words_of (no number (a ∷ b ∷ [])) }
 {
     Words {
-        number: number,
+        number,
         values: [a, b, 0, 0, 0, 0, 0, 0],
     }
-}
-
-// A number of another width as a word.
-pub fn wide8(n: u8) -> u64
-    ensures { result ≡ n }
-{
-    n as u64
-}
-
-pub fn wide16(n: u16) -> u64
-    ensures { result ≡ n }
-{
-    n as u64
-}
-
-pub fn wide32(n: u32) -> u64
-    ensures { result ≡ n }
-{
-    n as u64
-}
-
-pub fn wide(n: usize) -> u64
-    ensures { result ≡ n }
-{
-    n as u64
 }
 
 // Seconds as their two's complement.
 pub fn word_of(secs: i64) -> u64
     ensures { result ≡ word_of secs }
 {
-    if secs < 0 {
-        let k = (-1 - secs) as u64;
-        return 18446744073709551615 - k;
-    }
-    secs as u64
+    secs.cast_unsigned()
 }

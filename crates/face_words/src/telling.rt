@@ -12,20 +12,8 @@ pub fn put(answer: &mut [u64], words: Words) -> u32
     requires { 8 ≤ length answer.old }
     ensures { (result ≡ words.number) × (answer.new ≡ eight words.values ++ drop 8 answer.old) }
 {
-    let v = words.values;
-    copy(answer, &v);
+    answer[..8].copy_from_slice(&words.values);
     words.number
-}
-
-fn copy(answer: &mut [u64], words: &[u64; 8])
-    requires { 8 ≤ length answer.old }
-    ensures { answer.new ≡ eight words.now ++ drop 8 answer.old }
-{
-    let mut i: usize = 0;
-    while i < 8 {
-        answer[i] = words[i];
-        i += 1;
-    }
 }
 
 // The count too: a refusal leaves it, and so it is written always.

@@ -3,7 +3,7 @@ ghost use Rattle.std.specs.Prelude.{◌≡◌, ◌≤◌, length, set};
 ghost use Rattle.lookup.specs.Refusals.{bit};
 ghost use Rattle.face_words.specs.Inside.{clock_set, record_set, written_if};
 
-use crate::{wide, wide32, word_of};
+use crate::word_of;
 use record::Record;
 use time::UnixTime;
 
@@ -12,7 +12,7 @@ pub fn count(record: &mut [u64], n: usize)
     requires { 6 ≤ length «record».old }
     ensures { «record».new ≡ set «record».old 0 n }
 {
-    record[0] = wide(n);
+    record[0] = n as u64;
 }
 
 // The clock, where the call was carried out.
@@ -23,7 +23,7 @@ pub fn clock(record: &mut [u64], number: u32, t: UnixTime)
 {
     if number == 0 {
         record[1] = word_of(t.secs);
-        record[2] = wide32(t.nanos);
+        record[2] = u64::from(t.nanos);
     }
 }
 
@@ -33,7 +33,7 @@ pub fn mark(record: &mut [u64], number: u32, on: bool)
     ensures { «record».new ≡ written_if number (set «record».old 5 (bit on)) «record».old }
 {
     if number == 0 {
-        record[5] = on as u64;
+        record[5] = u64::from(on);
     }
 }
 
@@ -45,11 +45,11 @@ pub fn all(record: &mut [u64], number: u32, r: Record)
     if number == 0 {
         let c = r.clock;
         let m = r.margin;
-        record[0] = wide(r.count);
+        record[0] = r.count as u64;
         record[1] = word_of(c.secs);
-        record[2] = wide32(c.nanos);
+        record[2] = u64::from(c.nanos);
         record[3] = m.secs;
-        record[4] = wide32(m.nanos);
-        record[5] = r.enabled as u64;
+        record[4] = u64::from(m.nanos);
+        record[5] = u64::from(r.enabled);
     }
 }

@@ -1,4 +1,5 @@
 -- Refusals 13 and 14 of a state, by its record and by the verdict of `gate`.
+use Rattle.std.specs.Prelude.{Result, Ok, Err}
 use Prim.Native.Nat.{◌<◌, ◌≤◌, ℕ}
 use borrow.Author.Tests.{le-ltb, lt-ltb}
 use lib.ListN.{length}
@@ -21,8 +22,6 @@ use Rattle.gate.specs.Inside.{Gate}
 use Rattle.schedule.proofs.Facts.{Facts}
 use Rattle.schedule.specs.State.{State, record_of, with_entries}
 use Rattle.schedule.specs.declared.Setup.{Setup}
-use Rattle.schedule.specs.declared.Verdict.{Verdict}
-use Rattle.schedule.specs.declared.Verdict.TheVariants as Ve
 
 module _ (su : Setup) (t : UnixTime) (id a : ℕ) (vs : List ℕ) (s : State) where
   late_at : in_time_margin s.clock s.margin t ≡ true → enter su t id a vs s ≡ refused (paper (ReleaseTimeInTimeMargin s.clock s.margin t))
@@ -49,11 +48,11 @@ module _ (su : Setup) (r : Record) (t : UnixTime) where
   full e l id a vs s q = full_at su t id a vs s (rw (← q) at e) (subst (λ (x : Record). su.entries ≤ x.count) (sym q) l)
 
 -- by the verdict
-pub gate_refused : (su : Setup) (r : Record) (t : UnixTime) (v : Verdict) (e : ScheduleRefusal) → Gate su r t v → v ≡ Ve.Refused e
+pub gate_refused : (su : Setup) (r : Record) (t : UnixTime) (v : Result (Unit {0}) ScheduleRefusal) (e : ScheduleRefusal) → Gate su r t v → v ≡ Err e
     → (id a : ℕ) (vs : List ℕ) (s : State) → record_of s ≡ r → enter su t id a vs s ≡ refused (paper e)
 gate_refused su r t v e g q = rw q at g
 
-pub gate_fine : (su : Setup) (r : Record) (t : UnixTime) (v : Verdict) → Gate su r t v → v ≡ Ve.Fine
+pub gate_fine : (su : Setup) (r : Record) (t : UnixTime) (v : Result (Unit {0}) ScheduleRefusal) → Gate su r t v → v ≡ (Ok tt)
     → (in_time_margin r.clock r.margin t ≡ false) × (r.count < su.entries)
 gate_fine su r t v g q = rw q at g
 

@@ -1,4 +1,5 @@
 -- What a stored insertion comes to, by what its tests said.
+use Rattle.std.specs.Prelude.{Result, Ok, Err}
 use Prim.Native.Nat.{◌+◌, ◌<◌, ℕ}
 use lib.ListN.{length}
 use mathlib.Core.Bool.{false, true}
@@ -6,7 +7,6 @@ use mathlib.Core.List.{List, []}
 use mathlib.Core.Path.{◌≡◌, ◌∙◌, ap, sym}
 use native.Mathlib.Omega.{arith}
 use Rattle.record.specs.Refusals.{done_paper, paper}
-use Rattle.record.specs.declared.Done.TheVariants.{Ok, Refused}
 use Rattle.record.specs.declared.Record.{Record}
 use Rattle.record.specs.declared.ScheduleRefusal.{ScheduleRefusal}
 use Rattle.record.specs.declared.ScheduleRefusal.TheVariants.{BadTime}
@@ -24,18 +24,16 @@ use Rattle.gate.specs.Inside.{Gate}
 use Rattle.schedule.specs.State.{State, record_of, state_of, with_count, with_entries}
 use Rattle.schedule.specs.Promise.{Does}
 use Rattle.schedule.specs.declared.Setup.{Setup}
-use Rattle.schedule.specs.declared.Verdict.{Verdict}
-use Rattle.schedule.specs.declared.Verdict.TheVariants as Ve
 use Rattle.gate.proofs.Gates.{enters, gate_refused}
 use Rattle.schedule.proofs.Promises.{does_done, does_refused, record_same}
 
 module _ (su : Setup) (r : Record) (st le ro : List ℕ) (t : UnixTime) (id a : ℕ) where
-  pub stored_bad : in_range t ≡ false → Does su r st le ro (insert_stored_in su t id a) (done_paper (Refused BadTime)) r st le ro
+  pub stored_bad : in_range t ≡ false → Does su r st le ro (insert_stored_in su t id a) (done_paper (Err BadTime)) r st le ro
   unfolding insert_stored_in timed unless done_paper paper
   stored_bad e = does_refused su r st le ro (insert_stored_in su t id a) (no 4 []) (rw e)
 
-  pub stored_refused : (v : Verdict) (e : ScheduleRefusal) → in_range t ≡ true → Gate su r t v → v ≡ Ve.Refused e
-      → Does su r st le ro (insert_stored_in su t id a) (done_paper (Refused e)) r st le ro
+  pub stored_refused : (v : Result (Unit {0}) ScheduleRefusal) (e : ScheduleRefusal) → in_range t ≡ true → Gate su r t v → v ≡ Err e
+      → Does su r st le ro (insert_stored_in su t id a) (done_paper (Err e)) r st le ro
   unfolding insert_stored_in timed unless done_paper
   stored_refused v e i g q =
       does_refused su r st le ro (insert_stored_in su t id a) (paper e)
@@ -58,7 +56,7 @@ module _ (su : Setup) (r : Record) (st le ro : List ℕ) (t : UnixTime) (id a : 
 
   pub stored_done : (ro' : List ℕ) (n : Record) → in_range t ≡ true → in_time_margin r.clock r.margin t ≡ false → r.count < su.entries
       → n ≡ with_count (r.count + 1) r → ro' ≡ after_insert ro r.count (entry_of (moment_of t) id a)
-      → Does su r st le ro (insert_stored_in su t id a) (done_paper Ok) n st le ro'
+      → Does su r st le ro (insert_stored_in su t id a) (done_paper (Ok tt)) n st le ro'
   unfolding done_paper after_stored state_of
   stored_done ro' n i e l p q =
       rw (p ∙ sym next_record)

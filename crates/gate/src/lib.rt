@@ -5,12 +5,12 @@ ghost use Rattle.time.specs.Time.{InRange, MarginInRange};
 ghost use Rattle.gate.specs.Inside.{Gate};
 
 use record::{Record, ScheduleRefusal};
-use schedule::{Setup, Verdict};
+use schedule::Setup;
 use time::UnixTime;
 
 pub mod judged;
 
-pub fn gate(setup: Setup, rec: Record, release: UnixTime) -> Verdict
+pub fn gate(setup: Setup, rec: Record, release: UnixTime) -> Result<(), ScheduleRefusal>
     requires in_range { InRange rec.clock }
     requires margin_in_range { MarginInRange rec.margin }
     requires in_range_2 { InRange release }
@@ -18,16 +18,15 @@ pub fn gate(setup: Setup, rec: Record, release: UnixTime) -> Verdict
 {
     let clock = rec.clock;
     let margin = rec.margin;
-    let late = time::in_time_margin(clock, margin, release);
-    if late {
-        return Verdict::Refused(ScheduleRefusal::ReleaseTimeInTimeMargin {
-            clock: clock,
-            margin: margin,
-            release: release,
+    if time::in_time_margin(clock, margin, release) {
+        return Err(ScheduleRefusal::ReleaseTimeInTimeMargin {
+            clock,
+            margin,
+            release,
         });
     }
     if setup.entries <= rec.count {
-        return Verdict::Refused(ScheduleRefusal::ScheduleFull);
+        return Err(ScheduleRefusal::ScheduleFull);
     }
-    Verdict::Fine
+    Ok(())
 }

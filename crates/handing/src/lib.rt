@@ -25,8 +25,7 @@ pub fn hand_out(
         store.new lens.new log.new }
 {
     let mut at = 8 + 4 * m;
-    let mut i: usize = 0;
-    while i < m {
+    for i in 0..m {
         let info = rows::tc_info(rows, m, i);
         release_log::put_number(log, 8 + 4 * i, at);
         let n = turn::hand_one(
@@ -40,8 +39,7 @@ pub fn hand_out(
             on,
             delete,
         );
-        at = at + n;
-        i += 1;
+        at += n;
     }
     release_log::put_number(log, 0, m);
     release_log::put_number(log, 4, at);

@@ -2,31 +2,31 @@
 #![tactic(auto)]
 
 ghost use Rattle.std.specs.Prelude.{false, true};
-ghost use Rattle.record.specs.Record.{Changes, clock_in, mark_in};
+ghost use Rattle.record.specs.Record.{Changes, changed_paper, clock_in, mark_in, record_after};
 
-use record::{Changed, Record};
+use record::{Record, ScheduleRefusal};
 use time::UnixTime;
 
-pub fn enable(rec: Record) -> Changed
-    ensures { Changes (mark_in true rec) rec result }
+pub fn enable(rec: Record) -> Result<Record, ScheduleRefusal>
+    ensures { Changes (mark_in true rec) rec (changed_paper result) (record_after rec result) }
 {
     let mut r = rec;
-    let a = record::enable(&mut r);
-    Changed { next: r, answer: a }
+    record::enable(&mut r)?;
+    Ok(r)
 }
 
-pub fn disable(rec: Record) -> Changed
-    ensures { Changes (mark_in false rec) rec result }
+pub fn disable(rec: Record) -> Result<Record, ScheduleRefusal>
+    ensures { Changes (mark_in false rec) rec (changed_paper result) (record_after rec result) }
 {
     let mut r = rec;
-    let a = record::disable(&mut r);
-    Changed { next: r, answer: a }
+    record::disable(&mut r)?;
+    Ok(r)
 }
 
-pub fn set_clock(rec: Record, t: UnixTime) -> Changed
-    ensures { Changes (clock_in t rec) rec result }
+pub fn set_clock(rec: Record, t: UnixTime) -> Result<Record, ScheduleRefusal>
+    ensures { Changes (clock_in t rec) rec (changed_paper result) (record_after rec result) }
 {
     let mut r = rec;
-    let a = record::set_clock(&mut r, t);
-    Changed { next: r, answer: a }
+    record::set_clock(&mut r, t)?;
+    Ok(r)
 }

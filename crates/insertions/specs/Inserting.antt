@@ -1,10 +1,9 @@
 -- The insertions by bytes: a command of a time, 9 to 14; unwrapped, with 4 before them.
-use Rattle.std.specs.Prelude.{ℕ, eqb, Bool, ◌&&◌, not, List, []}
+use Rattle.std.specs.Prelude.{Result, Ok, Err, ℕ, eqb, Bool, ◌&&◌, not, List, []}
+use Rattle.packet.specs.declared.Fault.{Fault}
 use Rattle.gate.specs.Entering.{timed}
 use Rattle.packet.specs.Packet.{id_of, id_word, read_of}
 use Rattle.packet.specs.declared.Header.{Header}
-use Rattle.packet.specs.declared.Reading.{Reading}
-use Rattle.packet.specs.declared.Reading.TheVariants.{Packet, Unreadable}
 use Rattle.rules.specs.Papers.{Outcome, no, refused}
 use Rattle.rules.specs.Tests.{unless}
 use Rattle.store.specs.Calls.{add_in}
@@ -19,9 +18,9 @@ nested h = eqb h.service 11 && eqb h.subservice 4
 
 -- a command of any time in range: 9 where it is unreadable, 10 where it is itself an insertion, then as above. All of its bytes are stored,
 -- those after its total too
-unfoldable pub activity : Setup → UnixTime → List ℕ → State → Reading → Outcome State
-activity su t tc s (Unreadable f) = refused (no 9 [])
-activity su t tc s (Packet h) =
+unfoldable pub activity : Setup → UnixTime → List ℕ → State → Result Header Fault → Outcome State
+activity su t tc s (Err f) = refused (no 9 [])
+activity su t tc s (Ok h) =
     unless (not (nested h)) (refused (no 10 [])) (entered su t (id_word (id_of h)) s (add_in su.store.spill s.pools tc))
 
 abbrev pub insert_tc : Setup → UnixTime → List ℕ → State → Outcome State

@@ -10,77 +10,63 @@ ghost use Rattle.gate.specs.Entering.{insert_stored_in};
 ghost use Rattle.insertions.specs.Inserting.{insert_unwrapped_in};
 ghost use Rattle.wrapped.specs.Wrapped.{insert_wrapped_in};
 
-use record::{Changed, Done, Record};
-use schedule::{Setup, Verdict};
-use storing::Inserted;
+use record::{Record, ScheduleRefusal};
+use rows::TcInfo;
+use schedule::Setup;
 use time::UnixTime;
 
 // An entry for a packet that is in the store already. Its address is not judged.
 pub fn insert_unwrapped_and_stored_tc(
     setup: Setup,
-    rec: Record,
+    rec: &mut Record,
     store: &[u8],
     lens: &[u16],
     rows: &mut [u64],
     release: UnixTime,
     request_id: u64,
     addr: u64,
-) -> Changed
-    ensures { Writes setup rec store.now lens.now rows.old
-        (judging setup rec store.now lens.now rows.old (insert_stored_in setup release request_id addr))
-        (done_paper result.answer) result.next store.now lens.now rows.new }
+) -> Result<(), ScheduleRefusal>
+    ensures { Writes setup rec.old store.now lens.now rows.old
+        (judging setup rec.old store.now lens.now rows.old (insert_stored_in setup release request_id addr))
+        (done_paper result) rec.new store.now lens.now rows.new }
 {
-    let j = schedule::judge(setup, rec, store, lens, rows);
-    match j {
-        Verdict::Refused(e) => Changed {
-            next: rec,
-            answer: Done::Refused(e),
-        },
-        Verdict::Fine => gate::judged::insert_unwrapped_and_stored_tc(
-            setup, rec, store, lens, rows, release, request_id, addr,
-        ),
-    }
+    schedule::judge(setup, *rec, store, lens, rows)?;
+    gate::judged::insert_unwrapped_and_stored_tc(
+        setup, rec, store, lens, rows, release, request_id, addr,
+    )
 }
 
 // A command with its release time: its packet goes to the store, and its entry to the schedule.
 pub fn insert_unwrapped_tc(
     setup: Setup,
-    rec: Record,
+    rec: &mut Record,
     store: &mut [u8],
     lens: &mut [u16],
     rows: &mut [u64],
     release: UnixTime,
     tc: &[u8],
-) -> Inserted
-    ensures { Writes setup rec store.old lens.old rows.old
-        (judging setup rec store.old lens.old rows.old (insert_unwrapped_in setup release tc.now))
-        (inserted_paper result.answer) result.next store.new lens.new rows.new }
+) -> Result<TcInfo, ScheduleRefusal>
+    ensures { Writes setup rec.old store.old lens.old rows.old
+        (judging setup rec.old store.old lens.old rows.old (insert_unwrapped_in setup release tc.now))
+        (inserted_paper result) rec.new store.new lens.new rows.new }
 {
-    let j = schedule::judge(setup, rec, store, lens, rows);
-    match j {
-        Verdict::Refused(e) => storing::refuse(rec, e),
-        Verdict::Fine => insertions::inserting::insert_unwrapped_tc(
-            setup, rec, store, lens, rows, release, tc,
-        ),
-    }
+    schedule::judge(setup, *rec, store, lens, rows)?;
+    insertions::inserting::insert_unwrapped_tc(setup, rec, store, lens, rows, release, tc)
 }
 
 // A packet of service 11, subservice 4, whose user data is a stamp and the command.
 pub fn insert_wrapped_tc(
     setup: Setup,
-    rec: Record,
+    rec: &mut Record,
     store: &mut [u8],
     lens: &mut [u16],
     rows: &mut [u64],
     outer: &[u8],
-) -> Inserted
-    ensures { Writes setup rec store.old lens.old rows.old
-        (judging setup rec store.old lens.old rows.old (insert_wrapped_in setup outer.now))
-        (inserted_paper result.answer) result.next store.new lens.new rows.new }
+) -> Result<TcInfo, ScheduleRefusal>
+    ensures { Writes setup rec.old store.old lens.old rows.old
+        (judging setup rec.old store.old lens.old rows.old (insert_wrapped_in setup outer.now))
+        (inserted_paper result) rec.new store.new lens.new rows.new }
 {
-    let j = schedule::judge(setup, rec, store, lens, rows);
-    match j {
-        Verdict::Refused(e) => storing::refuse(rec, e),
-        Verdict::Fine => wrapped::judged::insert_wrapped_tc(setup, rec, store, lens, rows, outer),
-    }
+    schedule::judge(setup, *rec, store, lens, rows)?;
+    wrapped::judged::insert_wrapped_tc(setup, rec, store, lens, rows, outer)
 }

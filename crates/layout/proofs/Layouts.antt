@@ -1,12 +1,9 @@
 -- Where a subpool's rows and bytes lie, and which setups are good.
-use Rattle.std.proofs.Common.{◌≡◌, ℕ, zero, suc, ◌+◌, ◌*◌, ◌%◌, ◌<◌, ◌≤◌, Bool, true, false, List, get_or, sym, refl, ap, ◌∙◌, ap₂, ⊎_elim, le_of_suc-le-suc, mul-le-mul, eq-or-lt_of_le, add-one, arith, eq-eqb, ne_eqb, le-leb, leb-true}
-use Rattle.layout.specs.Judge.{last_size, len_ok, pool_lens_ok, pool_ok, pool_ok_at, row_ok, setup_ok}
+use Rattle.std.proofs.Common.{◌≡◌, ℕ, zero, suc, ◌+◌, ◌*◌, ◌<◌, ◌≤◌, Bool, true, refl, ⊎_elim, le_of_suc-le-suc, mul-le-mul, eq-or-lt_of_le, add-one, arith, eq-eqb, le-leb, leb-true}
+use Rattle.layout.specs.Judge.{last_size, len_ok, pool_ok, pool_ok_at, setup_ok}
 use Rattle.layout.specs.Layout.{bytes_before, rows_before, size_at, slots_at}
 use Rattle.layout.specs.Limits.{max_subpools, store_free}
 use Rattle.rules.proofs.All.{all_each}
-use Rattle.rules.proofs.Cases.{le_or_lt}
-use Rattle.rules.specs.Tests.{all_below}
-use borrow.Author.Tests.{lt-leb}
 use mathlib.Core.Bool.{or-true}
 use Rattle.layout.specs.declared.Setup.{Setup}
 
@@ -25,17 +22,6 @@ bytes_none su = refl
 pub bytes_more : (su : Setup) (k : ℕ) → bytes_before su (k + 1) ≡ bytes_before su k + slots_at su k * size_at su k
 unfolding bytes_before
 bytes_more su k = rw add-one
-
--- the same, of an array that was taken out of the setup
-pub rows_on : (su : Setup) (slots : List ℕ) (k n r : ℕ) → su.slots ≡ slots → n ≡ rows_before su k → r ≡ get_or slots k 0
-    → n + r ≡ rows_before su (k + 1)
-rows_on su slots k n r e p q = ap₂ ◌+◌ p (q ∙ ap (λ (l : List ℕ). get_or l k 0) (sym e)) ∙ sym (rows_more su k)
-
-pub bytes_on : (su : Setup) (slots sizes : List ℕ) (k n r z : ℕ) → su.slots ≡ slots → su.sizes ≡ sizes → n ≡ bytes_before su k
-    → r ≡ get_or slots k 0 → z ≡ get_or sizes k 0 → n + r * z ≡ bytes_before su (k + 1)
-bytes_on su slots sizes k n r z e f p q s =
-    ap₂ ◌+◌ p (ap₂ ◌*◌ (q ∙ ap (λ (l : List ℕ). get_or l k 0) (sym e)) (s ∙ ap (λ (l : List ℕ). get_or l k 0) (sym f)))
-    ∙ sym (bytes_more su k)
 
 -- the product of two numbers of 16 bits
 pub product : (a b : ℕ) → a < 65536 → b < 65536 → a * b ≤ 4294836225
@@ -64,33 +50,17 @@ pub last_more : (su : Setup) (k : ℕ) → size_at su k ≡ last_size su (k + 1)
 unfolding last_size
 last_more su k = rw add-one
 
--- how a length's test comes out
-pub len_bad : (size n : ℕ) → (n ≡ store_free → ⊥) → size < n → len_ok size n ≡ false
-len_bad size n p q = simp (ne_eqb n store_free p, lt-leb n size q)
-
+-- a length that passes
 pub len_free : (size n : ℕ) → n ≡ store_free → len_ok size n ≡ true
 len_free size n p = simp (eq-eqb n store_free p)
 
 pub len_small : (size n : ℕ) → n ≤ size → len_ok size n ≡ true
 len_small size n p = simp (le-leb n size p, or-true)
 
--- the same, where one more than the length, x, is compared
-pub over_bad : (size n x : ℕ) → n < 65536 → size < store_free → x ≡ (n + 1) % 65536 → size + 1 < x → len_ok size n ≡ false
-over_bad size n x l s e h = len_bad size n (λ (q : n ≡ store_free). omega arith) (omega arith)
-
-pub over_fine : (size n x : ℕ) → n < 65536 → size < store_free → x ≡ (n + 1) % 65536 → x ≤ size + 1 → len_ok size n ≡ true
-over_fine size n x l s e h =
-    ⊎_elim (λ (q : store_free ≤ n). len_free size n (omega arith)) (λ (q : n < store_free). len_small size n (omega arith)) (le_or_lt store_free n)
-
 -- what a test on copies of a subpool's numbers says of the subpool
 pub pool_test : (su : Setup) (k last size slots : ℕ) (r b : Bool) → last ≡ last_size su k → size ≡ size_at su k → slots ≡ slots_at su k
     → r ≡ pool_ok last size slots → r ≡ b → pool_ok_at su k ≡ b
 pool_test su k last size slots r b p q s e t = cc
-
-pub rows_test : (su : Setup) (lens : List ℕ) (k base count size : ℕ) (r b : Bool) → base ≡ rows_before su k → size ≡ size_at su k →
-    count ≡ slots_at su k
-    → r ≡ all_below (row_ok lens base size) count → r ≡ b → pool_lens_ok su lens k ≡ b
-rows_test su lens k base count size r b p q s e t = rw (← p, ← q, ← s, ← e) t
 
 pub setup_few : (su : Setup) → setup_ok su ≡ true → su.pools ≤ max_subpools
 unfolding setup_ok

@@ -1,6 +1,6 @@
 -- Laws of a setup: which slots it has, where their rows and bytes lie, and what judging says.
 pub mod Cases
 pub mod Layouts
-pub mod Faults
+pub mod Lengths
 pub mod Bounds
 pub mod RowOf

@@ -1,5 +1,5 @@
 -- The row of an address: the cases of its rule, and whose row a row is.
-use Rattle.std.proofs.Common.{◌≡◌, ℕ, zero, suc, ◌+◌, ◌-◌, ◌<◌, ◌≤◌, Bool, true, false, ltb, sym, refl, ◌∙◌, ap₂, not-suc-le-zero, arith, ltb-false, ltb-true, le-ltb, lt-ltb}
+use Rattle.std.proofs.Common.{◌≡◌, ℕ, zero, suc, ◌+◌, ◌-◌, ◌<◌, ◌≤◌, Bool, true, false, ltb, refl, not-suc-le-zero, arith, ltb-false, ltb-true, le-ltb, lt-ltb}
 use Rattle.address.specs.Address.{invalid_addr, pool_of, slot_of}
 use Rattle.layout.proofs.Cases.{SlotCase, has_slot, past_pools, past_slots, slot_case}
 use Rattle.layout.proofs.Layouts.{rows_within}
@@ -41,17 +41,6 @@ module _ (su : Setup) (a : ℕ) where
 -- INVALID_ADDR names no slot, whatever the setup
 pub invalid_no_row : (su : Setup) → su.pools ≤ max_subpools → row_of su invalid_addr ≡ all_rows su
 invalid_no_row su l = row_no_pool su invalid_addr (omega arith)
-
--- copies of the decoded numbers, as the search has them
-module _ (su : Setup) (a k s r : ℕ) (p : k ≡ pool_of a) (q : s ≡ slot_of a) where
-  pub is_no_pool : su.pools ≤ k → r ≡ all_rows su → r ≡ row_of su a
-  is_no_pool l e = e ∙ sym (row_no_pool su a (rw p at l))
-
-  pub is_no_slot : k < su.pools → slots_at su k ≤ s → r ≡ all_rows su → r ≡ row_of su a
-  is_no_slot l m e = e ∙ sym (row_no_slot su a (rw p at l) (rw (p, q) at m))
-
-  pub is_named : k < su.pools → s < slots_at su k → r ≡ rows_before su k + s → r ≡ row_of su a
-  is_named l m e = e ∙ ap₂ (λ (x y : ℕ). rows_before su x + y) p q ∙ sym (row_named su a (record { pool = rw p at l; slot = rw (p, q) at m }))
 
 -- each row of the setup is some slot's
 pub record Owner (su : Setup) (n r : ℕ) : Type 0 where

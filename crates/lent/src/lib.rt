@@ -1,78 +1,67 @@
-// What the programs of cases lend to a call of the scheduler, damaged by hand and compared with copies.
+// What the programs of cases lend to a call of the scheduler: damaged by hand, and compared with a copy.
 #![tactic(auto)]
 
 use record::Record;
 use schedule::Setup;
-use text::{out, same};
+use text::say;
 
-// The setup, the record, and how much of the store, the lengths and the rows is lent.
+// A setup, a record and tables, and how much of the tables a call is lent.
 #[derive(Clone, Copy)]
-pub struct Lent {
+pub struct Bench<const S: usize, const L: usize, const R: usize> {
     pub setup: Setup,
     pub rec: Record,
+    pub part: Part,
+    pub store: [u8; S],
+    pub lens: [u16; L],
+    pub rows: [u64; R],
+}
+
+// How many bytes, lengths and words of rows; all that there are where it says more.
+#[derive(Clone, Copy)]
+pub struct Part {
     pub room: usize,
     pub lens: usize,
     pub rows: usize,
 }
 
-pub fn with_record(b: Lent, rec: Record) -> Lent {
-    let setup = b.setup;
-    Lent {
-        setup: setup,
-        rec: rec,
-        room: b.room,
-        lens: b.lens,
-        rows: b.rows,
+// As a call is given it.
+pub struct Lent<'a> {
+    pub setup: Setup,
+    pub rec: &'a mut Record,
+    pub store: &'a mut [u8],
+    pub lens: &'a mut [u16],
+    pub rows: &'a mut [u64],
+}
+
+impl<const S: usize, const L: usize, const R: usize> Bench<S, L, R> {
+    pub fn lend(&mut self) -> Lent<'_> {
+        let part = self.part;
+        Lent {
+            setup: self.setup,
+            rec: &mut self.rec,
+            store: &mut self.store[..part.room.min(S)],
+            lens: &mut self.lens[..part.lens.min(L)],
+            rows: &mut self.rows[..part.rows.min(R)],
+        }
+    }
+
+    // The names of the tables that are not as in a copy are written out; whether there are any. What was not lent is compared too.
+    pub fn say_changed(&self, rt: &impl Print, old: &Bench<S, L, R>) -> bool {
+        let tables = [
+            ("store", self.store != old.store),
+            ("lengths", self.lens != old.lens),
+            ("rows", self.rows != old.rows),
+        ];
+        for (name, _) in tables.iter().filter(|t| t.1) {
+            say!(rt; " {name}");
+        }
+        tables.iter().any(|t| t.1)
     }
 }
 
-pub fn set_length(lens: &mut [u16], i: usize, n: u16) {
-    if i < lens.len() {
-        lens[i] = n;
+// An item of a table becomes another; one behind the last is no item.
+pub fn set<T: Copy>(table: &mut [T], i: usize, x: T) {
+    if i < table.len() {
+        table[i] = x;
     }
-}
-
-pub fn set_word(rows: &mut [u64], i: usize, w: u64) {
-    if i < rows.len() {
-        rows[i] = w;
-    }
-}
-
-// All of the record but its count.
-pub fn same_but_count(a: Record, b: Record) -> bool {
-    let s = a.clock;
-    let t = b.clock;
-    let m = a.margin;
-    let n = b.margin;
-    let clocks = both(s.secs == t.secs, s.nanos == t.nanos);
-    let margins = both(m.secs == n.secs, m.nanos == n.nanos);
-    both(both(clocks, margins), a.enabled == b.enabled)
-}
-
-// Whether the tables are as their copies; which are not is written out.
-pub fn same_tables(
-    rt: &impl Print,
-    s: &[u8],
-    store: &[u8],
-    l: &[u16],
-    lens: &[u16],
-    r: &[u64],
-    rows: &[u64],
-) -> bool {
-    let a = unless(rt, b" store", same::bytes(s, store));
-    let b = unless(rt, b" lengths", same::shorts(l, lens));
-    let c = unless(rt, b" rows", same::longs(r, rows));
-    both(both(a, b), c)
-}
-
-pub fn both(a: bool, b: bool) -> bool {
-    if a { b } else { false }
-}
-
-// The name of what is not the same.
-pub fn unless(rt: &impl Print, name: &[u8], same: bool) -> bool {
-    if !same {
-        out::say(rt, name);
-    }
-    same
 }

@@ -1,4 +1,5 @@
 -- The reader finds every record that was written into a log, and no more.
+use Rattle.std.specs.Prelude.{Some}
 use Prim.Native.Nat.{◌*◌, ◌+◌, ◌<◌, ◌^◌, ◌≤◌, ℕ}
 use Rattle.release_log.proofs.Places.{LiesAt, each_lies}
 use Rattle.release_log.proofs.ReadBack.{Plain, count_back}
@@ -7,7 +8,6 @@ use Rattle.release_log.specs.Reading.{count_of, end_of, offset_of, record_in}
 use Rattle.log_reader.proofs.Counted.{found, lies, not_found}
 use Rattle.log_reader.specs.Finding.{between, counted, item_in, item_record}
 use Rattle.log_reader.specs.Laws.{Finds, FindsAll}
-use Rattle.log_reader.specs.declared.Found.TheVariants.{Record}
 use borrow.Author.Tests.{le-ltb}
 use lib.ListN.{length}
 use lib.Seq.{length-sets, sets}
@@ -27,7 +27,7 @@ counts log n e h =
     let b : 8 + 4 * count_of log ≤ length log = omega arith in
     simp (le-ltb _ _ a, le-ltb _ _ b) e
 
-here : (log : List ℕ) (at end : ℕ) → end ≤ length log → at + 17 ≤ end → Record (item_in log at end) ≡ between log at end
+here : (log : List ℕ) (at end : ℕ) → end ≤ length log → at + 17 ≤ end → Some (item_in log at end) ≡ between log at end
 unfolding record_in
 here log at end h k = lies log at end _ _ h k refl refl
 

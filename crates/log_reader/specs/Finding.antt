@@ -1,9 +1,7 @@
 -- Record i of a log, where the log's numbers keep it inside the bytes given. Places and numbers are those of `log`'s `Reading`.
-use Rattle.std.specs.Prelude.{◌*◌, ◌+◌, ◌-◌, ℕ, ltb, drop, length, take, cond, List}
+use Rattle.std.specs.Prelude.{Option, Some, None, ◌*◌, ◌+◌, ◌-◌, ℕ, ltb, drop, length, take, cond, List}
 use Rattle.release_log.specs.Log.{LogRecord}
 use Rattle.release_log.specs.Reading.{record_in, count_of, end_of, offset_of}
-use Rattle.log_reader.specs.declared.Found.{Found}
-use Rattle.log_reader.specs.declared.Found.TheVariants.{Outside, Record}
 use Rattle.log_reader.specs.declared.Item.{Item}
 
 -- the record from `at` up to `end`; its packet is the bytes behind the flag, the ID and the address
@@ -28,12 +26,12 @@ item_record log it =
     }
 
 -- a record has 17 bytes or more, and ends inside the log
-unfoldable pub between : List ℕ → ℕ → ℕ → Found
-between log at end = cond (ltb (length log) end) Outside (cond (ltb end (at + 17)) Outside (Record (item_in log at end)))
+unfoldable pub between : List ℕ → ℕ → ℕ → Option Item
+between log at end = cond (ltb (length log) end) None (cond (ltb end (at + 17)) None (Some (item_in log at end)))
 
 -- how many records a log counts; none where it is too short for its numbers
 unfoldable pub counted : List ℕ → ℕ
 counted log = cond (ltb (length log) 8) 0 (cond (ltb (length log) (8 + 4 * count_of log)) 0 (count_of log))
 
-unfoldable pub found_in : List ℕ → ℕ → Found
-found_in log i = cond (ltb i (counted log)) (between log (offset_of log i) (end_of log i)) Outside
+unfoldable pub found_in : List ℕ → ℕ → Option Item
+found_in log i = cond (ltb i (counted log)) (between log (offset_of log i) (end_of log i)) None

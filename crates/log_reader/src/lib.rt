@@ -15,12 +15,8 @@ pub struct Item {
     pub to: usize,
 }
 
-#[derive(Clone, Copy)]
-pub enum Found {
-    Record(Item),
-    Outside,
-}
-
+// How many records a log counts; none where it is too short for its numbers.
+#[tactic(auto, unfolding(crate::specs::Finding::counted))]
 pub fn count(log: &[u8]) -> usize
     ensures { result ≡ counted log.now }
 {
@@ -28,10 +24,7 @@ pub fn count(log: &[u8]) -> usize
         return 0;
     }
     let n = words::read(log, 0, 4) as usize;
-    if log.len() < 8 + 4 * n {
-        return 0;
-    }
-    n
+    if log.len() < 8 + 4 * n { 0 } else { n }
 }
 
 // Record i ends where the next one starts, and the last at the total.
@@ -45,17 +38,17 @@ fn end_of(log: &[u8], n: usize, i: usize) -> usize
     words::read(log, 4, 4) as usize
 }
 
-fn between(log: &[u8], at: usize, end: usize) -> Found
+fn between(log: &[u8], at: usize, end: usize) -> Option<Item>
     requires { at < 4294967296 }
     ensures { result ≡ betweenIn log.now at end }
 {
     if log.len() < end {
-        return Found::Outside;
+        return None;
     }
     if end < at + 17 {
-        return Found::Outside;
+        return None;
     }
-    Found::Record(Item {
+    Some(Item {
         flag: log[at],
         id: words::read(log, at + 1, 8),
         addr: words::read(log, at + 9, 8),
@@ -64,12 +57,12 @@ fn between(log: &[u8], at: usize, end: usize) -> Found
     })
 }
 
-pub fn record_at(log: &[u8], i: usize) -> Found
+pub fn record_at(log: &[u8], i: usize) -> Option<Item>
     ensures { result ≡ found_in log.now i }
 {
     let n = count(log);
     if i >= n {
-        return Found::Outside;
+        return None;
     }
     let at = words::read(log, 8 + 4 * i, 4) as usize;
     between(log, at, end_of(log, n, i))

@@ -1,4 +1,5 @@
 -- What a search answers, from what the code read, and what is there where it found a packet.
+use Rattle.std.specs.Prelude.{Ok, Err}
 use Prim.Native.Nat.{ℕ}
 use Rattle.lookup.proofs.Packets.{PacketAt, spot_refused}
 use Rattle.lookup.specs.Calls.{if_held, if_named, packet_in}
@@ -16,16 +17,13 @@ use Rattle.layout.specs.declared.Setup.{Setup}
 use Rattle.lookup.specs.declared.Span.{Span}
 use Rattle.slots.specs.declared.Cell.{Cell}
 use Rattle.slots.specs.declared.StoreRefusal.{StoreRefusal}
-use Rattle.slots.specs.declared.search.Spot.{Spot}
-use Rattle.slots.specs.declared.search.Spot.TheVariants as Sp
-use Rattle.lookup.specs.declared.Whereabouts.TheVariants as Wh
 
 module _ (su : Setup) (st le : List ℕ) (a : ℕ) where
-  pub finds_refused : (r : Spot) (e : StoreRefusal) → r ≡ spot_of su a (find (view su st le) a) → r ≡ Sp.Refused e → Finds su st le a (Wh.Refused e)
+  pub finds_refused : (e : StoreRefusal) → Err e ≡ spot_of su a (find (view su st le) a) → Finds su st le a (Err e)
   unfolding found_as packet_in
-  finds_refused r e p q = record { same = sym (spot_refused su a _ e _ (sym p ∙ q)); inside = tt }
+  finds_refused e q = record { same = sym (spot_refused su a _ e _ (sym q)); inside = tt }
 
-  pub finds_at : (c : Cell) → PacketAt su st le a c → (n : ℕ) → n ≡ get_or le c.row 0 → Finds su st le a (Wh.At (record { from = c.from; len = n }))
+  pub finds_at : (c : Cell) → PacketAt su st le a c → (n : ℕ) → n ≡ get_or le c.row 0 → Finds su st le a (Ok (record { from = c.from; len = n }))
   unfolding found_as packet_in if_held if_named part
   finds_at c k n e =
       let s = k.short in
@@ -49,7 +47,7 @@ held_by a n l (held m b) q =
     (b, ap (λ (k : ℕ). held k b) e, ap (λ (k : ℕ). take k b) (sym e) ∙ f)
 
 module _ (su : Setup) (st le : List ℕ) (a : ℕ) where
-  pub found_held_at : (s : Span) → Finds su st le a (Wh.At s)
+  pub found_held_at : (s : Span) → Finds su st le a (Ok s)
       → (raw : List ℕ) × (find (view su st le) a ≡ held s.len raw) × (take s.len raw ≡ part s.from s.len st)
   unfolding found_as packet_in
   found_held_at s f = held_by a s.len _ _ f.same

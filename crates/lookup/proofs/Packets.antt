@@ -1,4 +1,5 @@
 -- What is known where the search for an address has found a packet, or refused.
+use Rattle.std.specs.Prelude.{Result, Ok, Err}
 use Prim.Native.Nat.{◌+◌, ◌<◌, ◌≤◌, ℕ}
 use Rattle.address.specs.Address.{pool_of, slot_of}
 use Rattle.layout.proofs.Bounds.{bounds}
@@ -17,13 +18,11 @@ use Rattle.slots.specs.View.{bytes_at, part, view}
 use lib.ListN.{get_or, length}
 use mathlib.Core.List.{List, []}
 use mathlib.Core.Logic.{⊎_elim}
-use mathlib.Core.Path.{◌∙◌, ◌≡◌, ap, refl, subst, sym}
+use mathlib.Core.Path.{◌≡◌, ap, refl, subst, sym}
 use native.Mathlib.Omega.{arith}
 use Rattle.layout.specs.declared.Setup.{Setup}
 use Rattle.slots.specs.declared.Cell.{Cell}
 use Rattle.slots.specs.declared.StoreRefusal.{StoreRefusal}
-use Rattle.slots.specs.declared.search.Spot.{Spot}
-use Rattle.slots.specs.declared.search.Spot.TheVariants.{Refused, At}
 
 -- an address names the packet in this cell
 pub record PacketAt (su : Setup) (st le : List ℕ) (a : ℕ) (c : Cell) : Type 0 where
@@ -32,7 +31,7 @@ pub record PacketAt (su : Setup) (st le : List ℕ) (a : ℕ) (c : Cell) : Type 
   pub there : find (view su st le) a ≡ held (get_or le c.row 0) (part c.from c.size st)
   pub short : get_or le c.row 0 ≤ c.size
 
-pub spot_at : (su : Setup) (a : ℕ) (x : Found) (c : Cell) → spot_of su a x ≡ At c
+pub spot_at : (su : Setup) (a : ℕ) (x : Found) (c : Cell) → spot_of su a x ≡ Ok c
     → (n : ℕ) × (b : List ℕ) × (x ≡ held n b) × (c ≡ cell_of su (pool_of a) (slot_of a))
 unfolding spot_of
 spot_at su a no_pool c q = let z : ◌≡◌ {A = ℕ} 0 1 = cc in absurd (omega arith)
@@ -41,11 +40,11 @@ spot_at su a vacant c q = let z : ◌≡◌ {A = ℕ} 0 1 = cc in absurd (omega 
 spot_at su a (held n b) c q = (n, b, refl, cc)
 
 -- what a search that refused says
-unfoldable pub spot_paper : Spot → Paper
-spot_paper (Refused e) = paper e
-spot_paper (At c) = no 0 []
+unfoldable pub spot_paper : Result Cell StoreRefusal → Paper
+spot_paper (Err e) = paper e
+spot_paper (Ok c) = no 0 []
 
-pub spot_refused : {A : Type 0} (su : Setup) (a : ℕ) (x : Found) (e : StoreRefusal) (f : ℕ → List ℕ → Outcome A) → spot_of su a x ≡ Refused e
+pub spot_refused : {A : Type 0} (su : Setup) (a : ℕ) (x : Found) (e : StoreRefusal) (f : ℕ → List ℕ → Outcome A) → spot_of su a x ≡ Err e
     → if_held a x f ≡ refused (paper e)
 unfolding spot_of if_held if_named spot_paper paper
 spot_refused su a no_pool e f q = ap refused (ap spot_paper q)
@@ -75,7 +74,7 @@ module _ (su : Setup) (st le : List ℕ) (fine : Sound su st le) (a : ℕ) where
         short = ⊎_elim (λ f. absurd (h.2 f)) (λ l. l) w.len_ok;
       }
 
-  pub packet_found : (r : Spot) (c : Cell) → r ≡ spot_of su a (find (view su st le) a) → r ≡ At c → PacketAt su st le a c
-  packet_found r c p q =
-      let s = spot_at su a _ c (sym p ∙ q) in
+  pub packet_found : (c : Cell) → Ok c ≡ spot_of su a (find (view su st le) a) → PacketAt su st le a c
+  packet_found c q =
+      let s = spot_at su a _ c (sym q) in
       subst (PacketAt su st le a) (sym s.3) (packet_there s.0 s.1 s.2)

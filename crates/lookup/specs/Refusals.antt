@@ -1,15 +1,11 @@
 -- Document 01's number and values for each refusal of the store, and for each answer of a call that looks a packet up: 0 for one
 -- that is no refusal.
-use Rattle.std.specs.Prelude.{ℕ, Bool, false, true, [], ◌∷◌}
+use Rattle.std.specs.Prelude.{Result, Ok, Err, ℕ, Bool, false, true, [], ◌∷◌}
 use Rattle.rules.specs.Papers.{Paper, no}
 use Rattle.slots.specs.declared.StoreIdError.{StoreIdError}
 use Rattle.slots.specs.declared.StoreIdError.TheVariants.{InvalidSubpool, InvalidPacketIdx}
 use Rattle.slots.specs.declared.StoreRefusal.{StoreRefusal}
 use Rattle.slots.specs.declared.StoreRefusal.TheVariants.{BadSetup, BadBuffers, StateDamaged, DataTooLarge, StoreFull, InvalidStoreId, DataDoesNotExist, BufferTooSmall}
-use Rattle.lookup.specs.declared.Length.{Length}
-use Rattle.lookup.specs.declared.Length.TheVariants as L
-use Rattle.lookup.specs.declared.Presence.{Presence}
-use Rattle.lookup.specs.declared.Presence.TheVariants as P
 
 abbrev pub bad_paper : StoreIdError → Paper
 bad_paper (InvalidSubpool k) = no 16 (k ∷ [])
@@ -25,14 +21,14 @@ paper (InvalidStoreId b) = bad_paper b
 paper (DataDoesNotExist a) = no 18 (a ∷ [])
 paper (BufferTooSmall found expected) = no 19 (found ∷ expected ∷ [])
 
-unfoldable pub length_paper : Length → Paper
-length_paper (L.Of n) = no 0 (n ∷ [])
-length_paper (L.Refused e) = paper e
+unfoldable pub length_paper : Result ℕ StoreRefusal → Paper
+length_paper (Ok n) = no 0 (n ∷ [])
+length_paper (Err e) = paper e
 
 abbrev pub bit : Bool → ℕ
 bit true = 1
 bit false = 0
 
-unfoldable pub presence_paper : Presence → Paper
-presence_paper (P.Is b) = no 0 (bit b ∷ [])
-presence_paper (P.Refused e) = paper e
+unfoldable pub presence_paper : Result Bool StoreRefusal → Paper
+presence_paper (Ok b) = no 0 (bit b ∷ [])
+presence_paper (Err e) = paper e

@@ -5,26 +5,25 @@ use Rattle.layout.specs.Limits.{max_slot_size, store_free}
 use Rattle.marks.specs.Inside.{bare}
 use Rattle.marks.specs.Marks.{Marks, added}
 use Rattle.marks.specs.Promise.{Restores}
-use Rattle.rules.proofs.Cases.{eq_or_ne, le_or_lt}
+use Rattle.rules.proofs.Cases.{le_or_lt}
 use Rattle.rules.specs.Tests.{all_of, unless}
 use Rattle.slots.specs.Pools.{Pool}
 use Rattle.store.proofs.Rows.{row_plain}
 use borrow.Author.Tests.{le-leb, lt-leb, lt-ltb}
-use lib.ListN.{get_or, length, length-set, set}
-use lib.Seq.{ext_get_or, get_or-set_other, get_or-set_same}
-use mathlib.Core.List.{List}
+use lib.ListN.{drop, get_or, get_or-append, length, length-append, length-drop, take}
+use lib.Seq.{ext_get_or, length-take-le}
+use Rattle.std.proofs.lemmas.List.{get_or-append_right, get_or-drop, get_or-map, get_or-take, length-map}
+use mathlib.Core.List.{List, map, ◌++◌}
 use mathlib.Core.Logic.{◌⊎◌, inl, inr, ⊎_elim}
-use mathlib.Core.Path.{◌∙◌, ◌≡◌, refl, sym}
-use native.Mathlib.Nat.{not-suc-le-zero}
-use native.Mathlib.Numerals.{lt_of_le_of_ne}
+use mathlib.Core.Path.{◌∙◌, ◌≡◌, ap, refl, sym}
 use native.Mathlib.Omega.{arith}
 use Rattle.layout.specs.declared.Setup.{Setup}
 
-pub bare_low : (w : ℕ) → w < added → w ≡ bare w
+bare_low : (w : ℕ) → w < added → w ≡ bare w
 unfolding bare all_of unless
 bare_low w h = rw (lt-leb added w h)
 
-pub bare_free : (w : ℕ) → w ≡ store_free → w ≡ bare w
+bare_free : (w : ℕ) → w ≡ store_free → w ≡ bare w
 unfolding bare all_of unless
 bare_free w e = rw e
 
@@ -32,29 +31,37 @@ bare_marked : (w : ℕ) → added ≤ w → w < store_free → w - added ≡ bar
 unfolding bare all_of unless
 bare_marked w h l = rw (le-leb added w h, lt-ltb w store_free l)
 
-pub bare_word : (w : ℕ) → added ≤ w → (w ≡ store_free → ⊥) → w < 65536 → w - added ≡ bare w
-bare_word w h n l = bare_marked w h (lt_of_le_of_ne (omega arith) n)
-
 -- the marks are off the first n rows
 pub record Unmarked (n : ℕ) (le le' : List ℕ) : Type 0 where
   pub same_length : length le' ≡ length le
   pub low : (r : ℕ) → r < n → get_or le' r 0 ≡ bare (get_or le r 0)
   pub high : (r : ℕ) → n ≤ r → get_or le' r 0 ≡ get_or le r 0
 
-pub unmarked_none : (le : List ℕ) → Unmarked 0 le le
-unmarked_none le = record { same_length = refl; low = λ r l. absurd (not-suc-le-zero l); high = λ r l. refl }
+module _ (n : ℕ) (le : List ℕ) (h : n ≤ length le) where
+  front_length : length (map bare (take n le)) ≡ n
+  front_length = simp (length-map, length-take-le n le h) refl
 
-pub unmarked_more : (i : ℕ) (le₀ le : List ℕ) → i < length le → Unmarked i le₀ le → Unmarked (i + 1) le₀ (set le i (bare (get_or le i 0)))
-unmarked_more i le₀ le h u =
-    record {
-      same_length = length-set le i (bare (get_or le i 0)) ∙ u.same_length;
-      low = λ r l. low r l (eq_or_ne r i);
-      high = λ r l. get_or-set_other le i r (bare (get_or le i 0)) 0 (λ e. omega arith) ∙ u.high r (omega arith);
-    }
-  where
-    low : (r : ℕ) → r < i + 1 → (r ≡ i) ⊎ (r ≡ i → ⊥) → get_or (set le i (bare (get_or le i 0))) r 0 ≡ bare (get_or le₀ r 0)
-    low r l (inl e) = rw (e, get_or-set_same le i (bare (get_or le i 0)) 0 h, u.high i (omega arith))
-    low r l (inr o) = get_or-set_other le i r (bare (get_or le i 0)) 0 o ∙ u.low r (lt_of_le_of_ne (omega arith) o)
+  unmarked_low : (r : ℕ) → r < n → get_or (map bare (take n le) ++ drop n le) r 0 ≡ bare (get_or le r 0)
+  unmarked_low r l =
+      get_or-append (map bare (take n le)) (drop n le) 0 r (omega (arith, front_length))
+      ∙ get_or-map bare (take n le) r 0 0 (omega (arith, length-take-le n le h))
+      ∙ ap bare (get_or-take n le r 0 l)
+
+  unmarked_high : (r : ℕ) → n ≤ r → get_or (map bare (take n le) ++ drop n le) r 0 ≡ get_or le r 0
+  unmarked_high r l =
+      get_or-append_right (map bare (take n le)) (drop n le) n r 0 front_length l
+      ∙ get_or-drop n le (r - n) 0
+      ∙ ap (λ (i : ℕ). get_or le i 0) (omega arith)
+
+  -- what taking them off the front of a table leaves
+  pub unmarked_front : (le' : List ℕ) → le' ≡ map bare (take n le) ++ drop n le → Unmarked n le le'
+  unmarked_front le' e =
+      rw e
+      (record {
+        same_length = omega (arith, length-append (map bare (take n le)) (drop n le), front_length, length-drop n le);
+        low = unmarked_low;
+        high = unmarked_high;
+      })
 
 module _ (su : Setup) (st le₀ : List ℕ) (ps : List Pool) (le le' : List ℕ) (k : Marks su st le₀ ps le) (u : Unmarked (all_rows su) le le') where
   bare_is : (v w : ℕ) → (w ≡ store_free) ⊎ (w ≤ max_slot_size) → (v ≡ w) ⊎ ((w ≤ max_slot_size) × (v ≡ w + added)) → bare v ≡ w

@@ -14,6 +14,7 @@ use layout::{STORE_FREE, Setup};
 const MARK: u16 = 8192;
 
 // How many places the length table has, one for each slot of the setup.
+#[tactic(auto, using(layout::proofs::Layouts::setup_few))]
 pub fn places(setup: Setup) -> usize
     requires { setup_ok setup ≡ true }
     ensures { Places setup result }
@@ -23,6 +24,7 @@ pub fn places(setup: Setup) -> usize
 
 // The place of the slot that an address names; the number of all places where the setup has none. A caller looks it up once, for the two
 // functions below.
+#[tactic(auto, using(layout::proofs::Layouts::setup_few))]
 pub fn place_of(setup: Setup, addr: u64) -> usize
     requires { setup_ok setup ≡ true }
     ensures { Place setup addr result }
@@ -39,10 +41,7 @@ pub fn bytes_left(setup: Setup, lens: &[u16], all: usize, place: usize) -> usize
         return 0;
     }
     let left = lens[place];
-    if MARK <= left {
-        return 0;
-    }
-    layout::wide(left)
+    if left < MARK { usize::from(left) } else { 0 }
 }
 
 // Marks the packet of a place, if it has one, as handed out.
@@ -50,27 +49,24 @@ pub fn mark(setup: Setup, lens: &mut [u16], all: usize, place: usize)
     requires { Places setup all × Marking setup lens.old }
     ensures { Deletes setup lens.old place lens.new }
 {
-    if all <= place {
-        return;
+    if place < all {
+        let w = &mut lens[place];
+        if *w < MARK {
+            *w += MARK;
+        }
     }
-    let w = lens[place];
-    if MARK <= w {
-        return;
-    }
-    lens[place] = w + MARK;
 }
 
 // A length without its mark.
+#[tactic(auto, unfolding(crate::specs::Inside::bare, rules::specs::Tests::all_of, rules::specs::Tests::unless))]
 fn bare_of(w: u16) -> u16
     ensures { result ≡ bare w }
 {
-    if w < MARK {
-        return w;
+    if MARK <= w && w != STORE_FREE {
+        w - MARK
+    } else {
+        w
     }
-    if w == STORE_FREE {
-        return w;
-    }
-    w - MARK
 }
 
 // Takes all marks off.
@@ -79,9 +75,7 @@ pub fn unmark(setup: Setup, lens: &mut [u16])
     ensures { Restores setup lens.old lens.new }
 {
     let n = layout::rows(setup);
-    let mut i: usize = 0;
-    while i < n {
-        lens[i] = bare_of(lens[i]);
-        i += 1;
+    for w in &mut lens[..n] {
+        *w = bare_of(*w);
     }
 }

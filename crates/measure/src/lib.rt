@@ -18,10 +18,9 @@ fn mark(setup: layout::Setup, lens: &mut [u16], all: usize, place: usize, delete
     requires { Places setup all × Marking setup lens.old }
     ensures { Left delete setup lens.old place lens.new }
 {
-    if !delete {
-        return;
+    if delete {
+        marks::mark(setup, lens, all, place);
     }
-    marks::mark(setup, lens, all, place);
 }
 
 // How many of the first n rows fit into cap bytes. In delete mode the packets of those that do are marked.
@@ -42,8 +41,7 @@ fn mark_fitting(
 {
     let all = marks::places(setup);
     let mut used: usize = 8;
-    let mut i: usize = 0;
-    while i < n {
+    for i in 0..n {
         let info = rows::tc_info(rows, n, i);
         let place = marks::place_of(setup, info.addr);
         let len = marks::bytes_left(setup, lens, all, place);
@@ -53,9 +51,8 @@ fn mark_fitting(
         }
         mark(setup, lens, all, place, delete);
         used = next;
-        i += 1;
     }
-    i
+    n
 }
 
 // How many of the first n rows fit into cap bytes. The length table is as it was.
@@ -75,9 +72,8 @@ pub fn measure(
         × (lens.new ≡ lens.old) }
 {
     let m = mark_fitting(setup, store, lens, rows, n, cap, delete);
-    if !delete {
-        return m;
+    if delete {
+        marks::unmark(setup, lens);
     }
-    marks::unmark(setup, lens);
     m
 }

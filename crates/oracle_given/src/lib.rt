@@ -2,92 +2,93 @@
 // are in what is lent.
 #![tactic(auto)]
 
-use oracle_words::kinds;
+use oracle_words::tables::{Setup, Tables};
 use silotwist::{insert_calls, record_calls, schedule_calls};
-use text::line;
+use text::line::Line;
 
-// The original's two forms of the wrapped insertion are one call here, and so are its two of the unwrapped one.
-pub fn ask(
-    k: usize,
-    text: &[u8],
-    setup: &[u64],
-    record: &mut [u64],
-    store: &mut [u8],
-    lens: &mut [u16],
-    rows: &mut [u64],
-    bytes: &mut [u8],
-    answer: &mut [u64],
-) -> u32 {
-    if k == kinds::NEW {
-        let clock = line::time(text, 3);
-        let margin = line::margin(text, 5);
-        return schedule_calls::silotwist_fresh(
-            setup,
-            record,
-            store,
-            lens,
-            rows,
-            clock.secs,
-            clock.nanos,
-            margin.secs,
-            margin.nanos,
-            answer,
-        );
-    }
-    if k == kinds::NUM {
-        return schedule_calls::silotwist_count(setup, record, store, lens, rows, answer);
-    }
-    if k < kinds::NUM {
-        return change(k, text, record, answer);
-    }
-    if k <= kinds::WRAPPEDL {
-        let n = line::bytes(text, 1, bytes);
-        return insert_calls::silotwist_insert_wrapped(
-            setup,
-            record,
-            store,
-            lens,
-            rows,
-            &bytes[..n],
-            answer,
-        );
-    }
-    let t = line::time(text, 1);
-    if k <= kinds::UNWRAPPEDT {
-        let n = line::bytes(text, 3, bytes);
-        return insert_calls::silotwist_insert_unwrapped(
-            setup,
-            record,
-            store,
-            lens,
-            rows,
-            t.secs,
-            t.nanos,
-            &bytes[..n],
-            answer,
-        );
-    }
-    insert_calls::silotwist_insert_stored(
-        setup,
-        record,
-        store,
-        lens,
-        rows,
-        t.secs,
-        t.nanos,
-        line::number(text, 3),
-        line::number(text, 4),
-        answer,
+pub fn start(request: Line<'_>, t: &mut Tables) -> u32 {
+    t.setup = Setup::read(request);
+    let clock = request.time(3);
+    let margin = request.margin(5);
+    schedule_calls::silotwist_fresh(
+        t.setup.lent(),
+        &mut t.record,
+        &mut t.store,
+        &mut t.lens,
+        &mut t.rows,
+        clock.secs,
+        clock.nanos,
+        margin.secs,
+        margin.nanos,
+        &mut t.answer,
     )
 }
 
-fn change(k: usize, text: &[u8], record: &mut [u64], answer: &mut [u64]) -> u32 {
-    if k == kinds::CLOCK {
-        let t = line::time(text, 1);
-        return record_calls::silotwist_set_clock(record, t.secs, t.nanos, answer);
-    }
-    if k == kinds::ENABLE {
-        return record_calls::silotwist_enable(record, answer);
-    }
-    record_calls::silotwist_disable(record, answer)
+pub fn clock(request: Line<'_>, t: &mut Tables) -> u32 {
+    let clock = request.time(1);
+    record_calls::silotwist_set_clock(&mut t.record, clock.secs, clock.nanos, &mut t.answer)
+}
+
+pub fn enable(t: &mut Tables) -> u32 {
+    record_calls::silotwist_enable(&mut t.record, &mut t.answer)
+}
+
+pub fn disable(t: &mut Tables) -> u32 {
+    record_calls::silotwist_disable(&mut t.record, &mut t.answer)
+}
+
+pub fn count(t: &mut Tables) -> u32 {
+    schedule_calls::silotwist_count(
+        t.setup.lent(),
+        &t.record,
+        &t.store,
+        &t.lens,
+        &t.rows,
+        &mut t.answer,
+    )
+}
+
+pub fn wrapped(request: Line<'_>, t: &mut Tables) -> u32 {
+    let packet = request.bytes(1, &mut t.bytes);
+    insert_calls::silotwist_insert_wrapped(
+        t.setup.lent(),
+        &mut t.record,
+        &mut t.store,
+        &mut t.lens,
+        &mut t.rows,
+        packet,
+        &mut t.answer,
+    )
+}
+
+pub fn unwrapped(request: Line<'_>, t: &mut Tables) -> u32 {
+    let release = request.time(1);
+    let packet = request.bytes(3, &mut t.bytes);
+    insert_calls::silotwist_insert_unwrapped(
+        t.setup.lent(),
+        &mut t.record,
+        &mut t.store,
+        &mut t.lens,
+        &mut t.rows,
+        release.secs,
+        release.nanos,
+        packet,
+        &mut t.answer,
+    )
+}
+
+pub fn stored(request: Line<'_>, t: &mut Tables) -> u32 {
+    let release = request.time(1);
+    insert_calls::silotwist_insert_stored(
+        t.setup.lent(),
+        &mut t.record,
+        &mut t.store,
+        &mut t.lens,
+        &mut t.rows,
+        release.secs,
+        release.nanos,
+        request.number(3),
+        request.number(4),
+        &mut t.answer,
+    )
 }

@@ -1,87 +1,98 @@
-// The store's requests, to the proved library. Each ask gives the number that was returned; the answer's words, and the bytes handed out,
-// are in what is lent.
+// The store's requests, to the proved library: the number that was returned; the answer's words, and the bytes handed out, are in what is lent.
 #![tactic(auto)]
 
-use oracle_words::kinds;
+use oracle_words::tables::Tables;
 use silotwist::store_calls;
-use text::line;
+use text::line::Line;
 
-pub fn ask(
-    k: usize,
-    text: &[u8],
-    setup: &[u64],
-    store: &mut [u8],
-    lens: &mut [u16],
-    bytes: &mut [u8],
-    answer: &mut [u64; 8],
-) -> u32 {
-    if k == kinds::ADD {
-        let n = line::bytes(text, 1, bytes);
-        return store_calls::silotwist_store_add(setup, store, lens, &bytes[..n], answer);
-    }
-    if k == kinds::READ {
-        return read(text, setup, store, lens, bytes, answer);
-    }
-    let address = line::number(text, 1);
-    if k == kinds::DELETE {
-        return store_calls::silotwist_store_delete(setup, store, lens, address, answer);
-    }
-    if k == kinds::MODIFY {
-        return modify(text, setup, store, lens, address, answer);
-    }
-    if k == kinds::HAS {
-        return store_calls::silotwist_store_has(setup, store, lens, address, answer);
-    }
-    store_calls::silotwist_store_len(setup, store, lens, address, answer)
+pub fn add(request: Line<'_>, t: &mut Tables) -> u32 {
+    let packet = request.bytes(1, &mut t.bytes);
+    store_calls::silotwist_store_add(
+        t.setup.lent(),
+        &mut t.store,
+        &mut t.lens,
+        packet,
+        &mut t.answer,
+    )
 }
 
-fn read(
-    text: &[u8],
-    setup: &[u64],
-    store: &[u8],
-    lens: &[u16],
-    bytes: &mut [u8],
-    answer: &mut [u64],
-) -> u32 {
-    let address = line::number(text, 1);
-    let n = line::part(text, 2, bytes.len());
-    store_calls::silotwist_store_read(setup, store, lens, address, &mut bytes[0..n], answer)
+// Into as much of the bytes as the request says.
+pub fn read(request: Line<'_>, t: &mut Tables) -> u32 {
+    let bytes = &mut t.bytes[..];
+    let n = request.index(2).min(bytes.len());
+    store_calls::silotwist_store_read(
+        t.setup.lent(),
+        &t.store,
+        &t.lens,
+        request.number(1),
+        &mut bytes[..n],
+        &mut t.answer,
+    )
 }
 
 // Without a second word the bytes stay as they are; with one they are rewritten through the lent part.
-fn modify(
-    text: &[u8],
-    setup: &[u64],
-    store: &mut [u8],
-    lens: &[u16],
-    address: u64,
-    answer: &mut [u64; 8],
-) -> u32 {
-    if line::word(text, 2) >= text.len() {
-        return store_calls::silotwist_store_modify(setup, store, lens, address, answer);
+pub fn modify(request: Line<'_>, t: &mut Tables) -> u32 {
+    let address = request.number(1);
+    if request.rest(2).is_empty() {
+        return store_calls::silotwist_store_modify(
+            t.setup.lent(),
+            &t.store,
+            &t.lens,
+            address,
+            &mut t.answer,
+        );
     }
-    let number = store_calls::silotwist_store_part(setup, store, lens, address, answer);
+    let number = store_calls::silotwist_store_part(
+        t.setup.lent(),
+        &t.store,
+        &t.lens,
+        address,
+        &mut t.answer,
+    );
     if number == 0 {
-        let from = answer[0];
-        let len = answer[1];
-        rewrite(store, from as usize, len as usize, line::byte(text, 2));
-        answer[0] = len;
-        answer[1] = 0;
+        let [from, len, ..] = t.answer;
+        rewrite(&mut t.store, from as usize, len as usize, request.byte(2));
+        t.answer[0] = len;
+        t.answer[1] = 0;
     }
     number
 }
 
 // As the original's closure did: each byte by the number and its place.
 fn rewrite(store: &mut [u8], from: usize, len: usize, by: u8) {
-    if from > store.len() {
-        return;
+    let mut place = by;
+    for b in store.iter_mut().skip(from).take(len) {
+        *b ^= place;
+        place = place.wrapping_add(1);
     }
-    let n = line::least(len, store.len() - from);
-    let mut place: u8 = by;
-    let mut i: usize = 0;
-    while i < n {
-        store[from + i] = store[from + i] ^ place;
-        place = std::num::wrapping_add_u8(place, 1);
-        i += 1;
-    }
+}
+
+pub fn delete(request: Line<'_>, t: &mut Tables) -> u32 {
+    store_calls::silotwist_store_delete(
+        t.setup.lent(),
+        &mut t.store,
+        &mut t.lens,
+        request.number(1),
+        &mut t.answer,
+    )
+}
+
+pub fn has(request: Line<'_>, t: &mut Tables) -> u32 {
+    store_calls::silotwist_store_has(
+        t.setup.lent(),
+        &t.store,
+        &t.lens,
+        request.number(1),
+        &mut t.answer,
+    )
+}
+
+pub fn len(request: Line<'_>, t: &mut Tables) -> u32 {
+    store_calls::silotwist_store_len(
+        t.setup.lent(),
+        &t.store,
+        &t.lens,
+        request.number(1),
+        &mut t.answer,
+    )
 }

@@ -2,69 +2,125 @@
 // are in what is lent.
 #![tactic(auto)]
 
-use oracle_words::kinds;
+use oracle_words::tables::Tables;
 use silotwist::{delete_calls, schedule_calls, tick_call};
-use text::line;
+use text::line::Line;
+use time::UnixTime;
 
-// Limit and log of a release are ample; "k" keeps the packets; "d", and "b" with a buffer of the original's, delete them.
-// Kinds of a window: 0 all, 1 from-to, 2 from, 3 to; the deletion of all has none.
-pub fn ask(
-    k: usize,
-    text: &[u8],
-    setup: &[u64],
-    record: &mut [u64],
-    store: &mut [u8],
-    lens: &mut [u16],
-    rows: &mut [u64],
-    bytes: &mut [u8],
-    answer: &mut [u64],
-) -> u32 {
-    if k == kinds::RESET {
-        return schedule_calls::silotwist_reset(setup, record, store, lens, rows, answer);
+// The ends that a window has: kind 0 none, 1 both, 2 the first, 3 the last.
+struct Ends {
+    has_from: bool,
+    from: UnixTime,
+    has_to: bool,
+    to: UnixTime,
+}
+
+impl Ends {
+    fn read(request: Line<'_>) -> Ends {
+        let kind = request.number(1);
+        Ends {
+            has_from: matches!(kind, 1 | 2),
+            from: request.time(2),
+            has_to: matches!(kind, 1 | 3),
+            to: request.time(4),
+        }
     }
-    let id = line::number(text, 1);
-    if k == kinds::DELID {
-        return delete_calls::silotwist_delete_by_id_keep(
-            setup, record, store, lens, rows, id, answer,
-        );
-    }
-    if k == kinds::DELIDP {
-        return delete_calls::silotwist_delete_by_id(setup, record, store, lens, rows, id, answer);
-    }
-    if k == kinds::RELEASE {
-        let deletes = line::which(text, 1, b"k") > 0;
-        return tick_call::silotwist_tick(
-            setup,
-            record,
-            store,
-            lens,
-            rows,
-            bytes,
-            18446744073709551615,
-            deletes,
-            answer,
-        );
-    }
-    let w = line::number(text, 1);
-    let has_from = either(w, 1, 2);
-    let has_to = either(w, 1, 3);
-    let from = line::time(text, 2);
-    let to = line::time(text, 4);
-    if k == kinds::WINDOW {
-        return schedule_calls::silotwist_window(
-            setup, record, store, lens, rows, has_from, from.secs, from.nanos, has_to, to.secs,
-            to.nanos, answer,
-        );
-    }
-    delete_calls::silotwist_delete_window(
-        setup, record, store, lens, rows, has_from, from.secs, from.nanos, has_to, to.secs,
-        to.nanos, answer,
+}
+
+pub fn window(request: Line<'_>, t: &mut Tables) -> u32 {
+    let Ends {
+        has_from,
+        from,
+        has_to,
+        to,
+    } = Ends::read(request);
+    schedule_calls::silotwist_window(
+        t.setup.lent(),
+        &t.record,
+        &t.store,
+        &t.lens,
+        &t.rows,
+        has_from,
+        from.secs,
+        from.nanos,
+        has_to,
+        to.secs,
+        to.nanos,
+        &mut t.answer,
     )
 }
 
-fn either(w: u64, a: u64, b: u64) -> bool {
-    if w == a {
-        return true;
-    }
-    w == b
+// The deletion of all has no window's kind.
+pub fn delete_window(request: Line<'_>, t: &mut Tables) -> u32 {
+    let Ends {
+        has_from,
+        from,
+        has_to,
+        to,
+    } = Ends::read(request);
+    delete_calls::silotwist_delete_window(
+        t.setup.lent(),
+        &mut t.record,
+        &mut t.store,
+        &mut t.lens,
+        &mut t.rows,
+        has_from,
+        from.secs,
+        from.nanos,
+        has_to,
+        to.secs,
+        to.nanos,
+        &mut t.answer,
+    )
+}
+
+pub fn reset(t: &mut Tables) -> u32 {
+    schedule_calls::silotwist_reset(
+        t.setup.lent(),
+        &mut t.record,
+        &mut t.store,
+        &mut t.lens,
+        &mut t.rows,
+        &mut t.answer,
+    )
+}
+
+pub fn delete_by_id_keep(request: Line<'_>, t: &mut Tables) -> u32 {
+    delete_calls::silotwist_delete_by_id_keep(
+        t.setup.lent(),
+        &mut t.record,
+        &mut t.store,
+        &mut t.lens,
+        &mut t.rows,
+        request.number(1),
+        &mut t.answer,
+    )
+}
+
+pub fn delete_by_id(request: Line<'_>, t: &mut Tables) -> u32 {
+    delete_calls::silotwist_delete_by_id(
+        t.setup.lent(),
+        &mut t.record,
+        &mut t.store,
+        &mut t.lens,
+        &mut t.rows,
+        request.number(1),
+        &mut t.answer,
+    )
+}
+
+// Limit and log are ample; "k" keeps the packets; "d", and "b" with a buffer of the original's, delete them.
+pub fn release(request: Line<'_>, t: &mut Tables) -> u32 {
+    let keeps = matches!(request.word(1), b"k");
+    tick_call::silotwist_tick(
+        t.setup.lent(),
+        &mut t.record,
+        &mut t.store,
+        &mut t.lens,
+        &mut t.rows,
+        &mut t.bytes,
+        u64::MAX,
+        !keeps,
+        &mut t.answer,
+    )
 }

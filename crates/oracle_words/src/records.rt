@@ -1,146 +1,67 @@
 // Rows of the schedule, and the records of a log, in the original's words.
-use crate::said;
+ghost use Rattle.std.specs.Prelude.{◌^◌, ◌<◌};
 
-// What a buffer holds before a call.
-pub const GROUND: u8 = 238;
+use crate::said::Said;
+use crate::tables::GROUND;
+use std::iter::{once, repeat};
 
 // 2^42, what a row's seconds are written above.
 const ZERO: u64 = 4398046511104;
 
-pub fn word(rows: &[u64], i: usize) -> u64 {
-    if i < rows.len() {
-        return rows[i];
+// A bar, and so many rows from a row on; where the table has no more, rows of zeros.
+pub fn entries<P: Print>(said: &mut Said<'_, P>, rows: &[u64], first: usize, n: usize) {
+    said.say(" |");
+    let (rows, _) = rows.as_chunks::<4>();
+    for row in rows.iter().skip(first).chain(repeat(&[0; 4])).take(n) {
+        let [secs, nanos, id, address] = *row;
+        let secs = secs.wrapping_sub(ZERO).cast_signed();
+        said.say(format_args!(" {secs},{nanos},{id},{address}"));
     }
-    0
 }
 
-pub fn next(i: usize, by: usize) -> usize {
-    std::num::wrapping_add_usize(i, by)
-}
-
-// A bar, and so many rows from a row on.
-pub fn entries(
-    rt: &impl Print,
-    text: &[u8],
-    at: usize,
-    rows: &[u64],
-    first: usize,
-    n: usize,
-) -> usize {
-    let mut to = said::text(rt, text, at, b" |");
-    let mut i: usize = first % 4096 * 4;
-    let mut left: usize = n;
-    while left > 0 {
-        to = entry(rt, text, to, rows, i);
-        i = next(i, 4);
-        left -= 1;
+// How many records, the total, and each record's offset; it lies from there to the next one's, the last to the total. A letter where it is not
+// so: O or T where the first offset, or with none the total, is not right behind the offsets, B where a byte behind the total was written.
+pub fn released<P: Print>(said: &mut Said<'_, P>, log: &[u8]) {
+    let (numbers, _) = log.as_chunks::<4>();
+    let [n, total, others @ ..] = numbers else {
+        return;
+    };
+    let offsets = others.get(..number(n)).unwrap_or(others);
+    let ends = offsets.iter().skip(1).chain(once(total));
+    match offsets {
+        [] if number(total) != 8 => said.say('T'),
+        [first, ..] if number(first) != 8 + 4 * number(n) => said.say('O'),
+        _ => {}
     }
-    to
-}
-
-fn entry(rt: &impl Print, text: &[u8], at: usize, rows: &[u64], i: usize) -> usize {
-    let secs = said::signed(
-        rt,
-        text,
-        at,
-        std::num::wrapping_sub_u64(word(rows, i), ZERO),
-    );
-    let nanos = said::number(rt, text, secs, b',', word(rows, next(i, 1)));
-    let id = said::number(rt, text, nanos, b',', word(rows, next(i, 2)));
-    said::number(rt, text, id, b',', word(rows, next(i, 3)))
-}
-
-fn byte(s: &[u8], i: usize) -> u64 {
-    if i < s.len() {
-        return wide(s[i]);
+    for (from, end) in offsets.iter().zip(ends) {
+        record(said, log.get(number(from)..number(end)));
     }
-    0
-}
-
-fn wide(b: u8) -> u64 {
-    b as u64
-}
-
-// A number of n bytes, high byte first.
-fn big(s: &[u8], from: usize, n: usize) -> u64 {
-    let mut v: u64 = 0;
-    let mut i = from;
-    let mut left: usize = n;
-    while left > 0 {
-        v = std::num::wrapping_add_u64(v % 72057594037927936 * 256, byte(s, i));
-        i = next(i, 1);
-        left -= 1;
+    if !log.iter().skip(number(total)).all(|b| *b == GROUND) {
+        said.say('B');
     }
-    v
-}
-
-fn place(log: &[u8], at: usize) -> usize {
-    big(log, at, 4) as usize
-}
-
-// Each record lies from its offset to the next one's, the first behind the offsets, the last to the total; behind that all is as it was.
-pub fn released(rt: &impl Print, text: &[u8], at: usize, log: &[u8]) -> usize {
-    let n = place(log, 0) % 65536;
-    let total = place(log, 4);
-    let mut to = at;
-    let mut from: usize = 8 + n * 4;
-    let mut offset: usize = 8;
-    let mut left: usize = n;
-    while left > 0 {
-        to = unless(rt, place(log, offset) == from, text, to, b'O');
-        offset = next(offset, 4);
-        let end = last_or(left, total, place(log, offset));
-        to = one(rt, text, to, log, from, end);
-        from = end;
-        left -= 1;
-    }
-    to = unless(rt, from == total, text, to, b'T');
-    unless(rt, untouched(log, total), text, to, b'B')
-}
-
-fn last_or(left: usize, total: usize, offset: usize) -> usize {
-    if left == 1 {
-        return total;
-    }
-    offset
-}
-
-// A letter where it is not so: O for an offset, T for the total, B for what is behind.
-fn unless(rt: &impl Print, fine: bool, text: &[u8], at: usize, fault: u8) -> usize {
-    if fine {
-        return at;
-    }
-    said::byte(rt, text, at, fault)
 }
 
 // Flag, request ID, address, packet.
-fn one(rt: &impl Print, text: &[u8], at: usize, log: &[u8], from: usize, end: usize) -> usize {
-    let bar = said::text(rt, text, at, b" |");
-    let flag = said::number(rt, text, bar, b' ', byte(log, from));
-    let id = said::number(rt, text, flag, b' ', big(log, next(from, 1), 8));
-    let address = said::number(rt, text, id, b' ', big(log, next(from, 9), 8));
-    packet(rt, text, address, log, next(from, 17), end)
-}
-
-fn packet(rt: &impl Print, text: &[u8], at: usize, log: &[u8], from: usize, end: usize) -> usize {
-    said::part(
-        rt,
-        text,
-        at,
-        b' ',
-        log,
-        from,
-        std::num::wrapping_sub_usize(end, from),
-    )
-}
-
-fn untouched(log: &[u8], from: usize) -> bool {
-    let mut i = from;
-    while i < log.len() {
-        if log[i] != GROUND {
-            return false;
+fn record<P: Print>(said: &mut Said<'_, P>, record: Option<&[u8]>) {
+    match record.and_then(|record| record.split_first_chunk::<17>()) {
+        Some((head, packet)) => {
+            let flag = head[0];
+            let id = long(&head[1..9]);
+            let address = long(&head[9..]);
+            said.say(format_args!(" | {flag} {id} {address}"));
+            said.part(' ', Some(packet));
         }
-        i += 1;
+        None => said.say(" | OUTSIDE"),
     }
-    true
+}
+
+// Numbers, high byte first.
+fn number(bytes: &[u8; 4]) -> usize
+    ensures { result < 2 ^ 32 }
+{
+    u32::from_be_bytes(*bytes) as usize
+}
+
+fn long(bytes: &[u8]) -> u64 {
+    bytes.iter().fold(0, |v, b| v << 8 | u64::from(*b))
 }

@@ -1,103 +1,98 @@
 // Words compared with a line's, one behind the other; from the first byte on that differs they are written out instead.
-use itoa::Buffer;
-use text::out;
+use std::fmt;
+use std::fmt::{Display, Write};
+use text::line::Line;
+use text::{out, say};
 
-// The place of one who has left the line.
-const LOST: usize = 18446744073709551615;
+#[derive(Drop)]
+pub struct Said<'a, P> {
+    rt: &'a P,
+    line: Line<'a>,
+    // How far the words have been the line's; nothing once the line was left.
+    at: Option<usize>,
+}
 
-pub fn byte(rt: &impl Print, line: &[u8], at: usize, b: u8) -> usize {
-    if at < line.len() {
-        if line[at] == b {
-            return at + 1;
+impl<'a, P: Print> Said<'a, P> {
+    // The words that are to stand in a line from a place on.
+    pub fn new(rt: &'a P, line: Line<'a>, at: usize) -> Said<'a, P> {
+        Said {
+            rt,
+            line,
+            at: Some(at),
         }
     }
-    lost(rt, line, at, b)
-}
 
-// The line, and below it what is said here.
-fn lost(rt: &impl Print, line: &[u8], at: usize, b: u8) -> usize {
-    let one = [b];
-    if at != LOST {
-        out::say(rt, line);
-        out::number(rt, b"\n  here, behind byte ", at as u64);
-        out::say(rt, b": ");
+    pub fn line(&self) -> Line<'a> {
+        self.line
     }
-    out::say(rt, &one);
-    LOST
-}
 
-// Whether the words were the line's, and all of it.
-pub fn ended(rt: &impl Print, line: &[u8], at: usize) -> bool {
-    if at == line.len() {
-        return true;
+    pub fn place(&self) -> Option<usize> {
+        self.at
     }
-    if at != LOST {
-        out::say(rt, line);
-        out::number(rt, b"\n  here no more, behind byte ", at as u64);
+
+    pub fn say<D: Display + Drop>(&mut self, words: D) {
+        let _ = self.write(words);
     }
-    out::say(rt, b"\n");
-    false
-}
 
-pub fn text(rt: &impl Print, line: &[u8], at: usize, s: &[u8]) -> usize {
-    let mut to = at;
-    let mut i: usize = 0;
-    while i < s.len() {
-        to = byte(rt, line, to, s[i]);
-        i += 1;
-    }
-    to
-}
-
-// A mark and a number.
-pub fn number(rt: &impl Print, line: &[u8], at: usize, mark: u8, n: u64) -> usize {
-    let mut digits = Buffer::new();
-    let to = byte(rt, line, at, mark);
-    text(rt, line, to, digits.format(n).as_bytes())
-}
-
-// A number in two's complement.
-pub fn signed(rt: &impl Print, line: &[u8], at: usize, n: u64) -> usize {
-    if n < 9223372036854775808 {
-        return number(rt, line, at, b' ', n);
-    }
-    let to = byte(rt, line, at, b' ');
-    number(rt, line, to, b'-', std::num::wrapping_sub_u64(0, n))
-}
-
-fn pair(rt: &impl Print, line: &[u8], at: usize, b: u8) -> usize {
-    let to = byte(rt, line, at, digits::digit(b / 16));
-    byte(rt, line, to, digits::digit(b % 16))
-}
-
-// A mark and bytes, two digits each; "-" where there are none.
-pub fn hex(rt: &impl Print, line: &[u8], at: usize, mark: u8, s: &[u8]) -> usize {
-    let mut to = byte(rt, line, at, mark);
-    if s.len() == 0 {
-        return byte(rt, line, to, b'-');
-    }
-    let mut i: usize = 0;
-    while i < s.len() {
-        to = pair(rt, line, to, s[i]);
-        i += 1;
-    }
-    to
-}
-
-// The same of a part that lies inside.
-pub fn part(
-    rt: &impl Print,
-    line: &[u8],
-    at: usize,
-    mark: u8,
-    s: &[u8],
-    from: usize,
-    n: usize,
-) -> usize {
-    if from <= s.len() {
-        if n <= s.len() - from {
-            return hex(rt, line, at, mark, &s[from..from + n]);
+    // A mark and bytes; or that they do not lie inside.
+    pub fn part(&mut self, mark: char, bytes: Option<&[u8]>) {
+        match bytes {
+            Some(bytes) => self.say(format_args!("{mark}{}", Digits(bytes))),
+            None => self.say(" OUTSIDE"),
         }
     }
-    text(rt, line, at, b" OUTSIDE")
+
+    fn byte(&mut self, b: u8) {
+        let line = self.line.0;
+        if let Some(at) = self.at {
+            if at < line.len() && line[at] == b {
+                self.at = Some(at + 1);
+                return;
+            }
+            // The line, and below it what is said here.
+            out::say(self.rt, line);
+            say!(self.rt; "\n  here, behind byte {at}: ");
+            self.at = None;
+        }
+        out::say(self.rt, &[b]);
+    }
+
+    // Whether the words were the line's, and all of it.
+    pub fn ended(self) -> bool {
+        let line = self.line.0;
+        match self.at {
+            Some(at) if at == line.len() => return true,
+            Some(at) => {
+                out::say(self.rt, line);
+                say!(self.rt; "\n  here no more, behind byte {at}\n");
+            }
+            None => say!(self.rt; "\n"),
+        }
+        false
+    }
+}
+
+impl<P: Print> Write for Said<'_, P> {
+    fn write_str(&mut self, s: &str) -> fmt::Result {
+        for b in s.as_bytes() {
+            self.byte(*b);
+        }
+        Ok(())
+    }
+}
+
+// Two digits for each byte; "-" where there are none.
+#[derive(Clone, Copy)]
+struct Digits<'a>(&'a [u8]);
+
+impl Display for Digits<'_> {
+    fn fmt<W: fmt::Write>(&self, f: &mut fmt::Formatter<W>) -> fmt::Result {
+        if self.0.is_empty() {
+            return write!(f, "-");
+        }
+        for b in self.0 {
+            write!(f, "{b:02X}")?;
+        }
+        Ok(())
+    }
 }

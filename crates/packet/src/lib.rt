@@ -3,7 +3,6 @@
 
 ghost use Rattle.std.specs.Prelude.{◌≡◌};
 ghost use Rattle.packet.specs.Packet.{HandsBack, id_of, id_word, read_of};
-ghost use Rattle.packet.specs.declared.Reading.TheVariants.{Packet};
 
 mod fields;
 
@@ -26,13 +25,6 @@ pub enum Fault {
     HeaderBits,
     VersionNibble,
     CheckBytes,
-}
-
-// What bytes are: a packet with its header, or unreadable, and why.
-#[derive(Clone, Copy)]
-pub enum Reading {
-    Packet(Header),
-    Unreadable(Fault),
 }
 
 // What the schedule names a command by.
@@ -64,7 +56,7 @@ impl Header {
 
     // The user data of the bytes that this header was read from: for a caller that has read them, and needs no second check code.
     pub fn user_data(self, bytes: &[u8]) -> &[u8]
-        requires { read_of 2 bytes.now ≡ Packet self }
+        requires { read_of 2 bytes.now ≡ Ok self }
         ensures { HandsBack 2 bytes.now bytes.entry.ref_ptr result.now result.ref_ptr }
     {
         let end = self.total - 2;
@@ -73,38 +65,33 @@ impl Header {
 }
 
 // Any bytes at all get an answer. Bytes after the packet's total are allowed.
-pub fn read(bytes: &[u8]) -> Reading
+pub fn read(bytes: &[u8]) -> Result<Header, Fault>
     ensures { result ≡ read_of 2 bytes.now }
 {
     if bytes.len() < 13 {
-        return Reading::Unreadable(Fault::Length);
+        return Err(Fault::Length);
     }
-    let total_ok = packet_tests::total_in_bounds(bytes);
-    if !total_ok {
-        return Reading::Unreadable(Fault::Total);
+    if !packet_tests::total_in_bounds(bytes) {
+        return Err(Fault::Total);
     }
-    let bits_ok = packet_tests::header_bits(bytes);
-    if !bits_ok {
-        return Reading::Unreadable(Fault::HeaderBits);
+    if !packet_tests::header_bits(bytes) {
+        return Err(Fault::HeaderBits);
     }
-    let nibble_ok = packet_tests::version_nibble(bytes);
-    if !nibble_ok {
-        return Reading::Unreadable(Fault::VersionNibble);
+    if !packet_tests::version_nibble(bytes) {
+        return Err(Fault::VersionNibble);
     }
-    let check_ok = packet_tests::check_bytes(bytes);
-    if !check_ok {
-        return Reading::Unreadable(Fault::CheckBytes);
+    if !packet_tests::check_bytes(bytes) {
+        return Err(Fault::CheckBytes);
     }
-    Reading::Packet(fields::header(bytes))
+    Ok(fields::header(bytes))
 }
 
 // The user data as a part of the packet, uncopied: empty where the packet is unreadable, which `read` says.
 pub fn user_data(bytes: &[u8]) -> &[u8]
     ensures { HandsBack 2 bytes.now bytes.entry.ref_ptr result.now result.ref_ptr }
 {
-    let reading = read(bytes);
-    match reading {
-        Reading::Packet(h) => h.user_data(bytes),
-        Reading::Unreadable(_) => &bytes[..0],
+    match read(bytes) {
+        Ok(h) => h.user_data(bytes),
+        Err(_) => &bytes[..0],
     }
 }

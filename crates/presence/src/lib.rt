@@ -10,43 +10,38 @@ ghost use Rattle.presence.specs.Presence.{has_in, len_in};
 
 use address::StaticPoolAddr;
 use layout::{STORE_FREE, Setup};
-use lookup::{Length, Presence};
-use slots::search;
-use slots::search::Spot;
+use slots::{StoreRefusal, search};
 
-pub fn has_element_at(setup: Setup, store: &[u8], lens: &[u16], addr: u64) -> Presence
+pub fn has_element_at(
+    setup: Setup,
+    store: &[u8],
+    lens: &[u16],
+    addr: u64,
+) -> Result<bool, StoreRefusal>
     requires { Sound setup store.now lens.now }
     ensures { presence_paper result ≡ says (has_in (view setup store.now lens.now) addr) }
 {
     let a = StaticPoolAddr::decode(addr);
-    let spot = search::validate(setup, a);
-    match spot {
-        Spot::Refused(e) => Presence::Refused(e),
-        Spot::At(cell) => {
-            let row = cell.row;
-            if lens[row] == STORE_FREE {
-                return Presence::Is(false);
-            }
-            Presence::Is(true)
-        }
-    }
+    let cell = search::validate(setup, a)?;
+    let row = cell.row;
+    Ok(lens[row] != STORE_FREE)
 }
 
-pub fn len_of_data(setup: Setup, store: &[u8], lens: &[u16], addr: u64) -> Length
+pub fn len_of_data(
+    setup: Setup,
+    store: &[u8],
+    lens: &[u16],
+    addr: u64,
+) -> Result<usize, StoreRefusal>
     requires { Sound setup store.now lens.now }
     ensures { length_paper result ≡ says (len_in (view setup store.now lens.now) addr) }
 {
     let a = StaticPoolAddr::decode(addr);
-    let spot = search::validate(setup, a);
-    match spot {
-        Spot::Refused(e) => Length::Refused(e),
-        Spot::At(cell) => {
-            let row = cell.row;
-            let w = lens[row];
-            if w == STORE_FREE {
-                return Length::Of(0);
-            }
-            Length::Of(layout::wide(w))
-        }
+    let cell = search::validate(setup, a)?;
+    let row = cell.row;
+    let w = lens[row];
+    if w == STORE_FREE {
+        return Ok(0);
     }
+    Ok(usize::from(w))
 }

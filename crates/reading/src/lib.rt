@@ -11,53 +11,43 @@ ghost use Rattle.lookup.specs.Promise.{Reads};
 ghost use Rattle.reading.specs.Reading.{read_in, Lends};
 
 use layout::Setup;
-use lookup::{Length, Span, Whereabouts};
+use lookup::Span;
 use slots::{StoreRefusal, bytes};
 
-pub fn read(setup: Setup, store: &[u8], lens: &[u16], addr: u64, buf: &mut [u8]) -> Length
+pub fn read(
+    setup: Setup,
+    store: &[u8],
+    lens: &[u16],
+    addr: u64,
+    buf: &mut [u8],
+) -> Result<usize, StoreRefusal>
     requires { Sound setup store.now lens.now }
     ensures { Reads
         (read_in (view setup store.now lens.now) addr buf.old)
         buf.old (length_paper result) buf.new }
 {
-    let w = lookup::find(setup, store, lens, addr);
-    match w {
-        Whereabouts::Refused(e) => Length::Refused(e),
-        Whereabouts::At(s) => {
-            let from = s.from;
-            let n = s.len;
-            let found = buf.len();
-            if found < n {
-                return Length::Refused(StoreRefusal::BufferTooSmall {
-                    found: found,
-                    expected: n,
-                });
-            }
-            let end = from + n;
-            bytes::copy_in(buf, &store[from..end]);
-            Length::Of(n)
-        }
+    let s = lookup::find(setup, store, lens, addr)?;
+    let from = s.from;
+    let n = s.len;
+    let found = buf.len();
+    if found < n {
+        return Err(StoreRefusal::BufferTooSmall { found, expected: n });
     }
+    bytes::copy_in(buf, &store[from..from + n]);
+    Ok(n)
 }
 
-pub fn modify(setup: Setup, store: &[u8], lens: &[u16], addr: u64) -> Length
+pub fn modify(setup: Setup, store: &[u8], lens: &[u16], addr: u64) -> Result<usize, StoreRefusal>
     requires { Sound setup store.now lens.now }
     ensures { length_paper result ≡ says (packet_in (view setup store.now lens.now) addr) }
 {
-    let w = lookup::find(setup, store, lens, addr);
-    match w {
-        Whereabouts::Refused(e) => Length::Refused(e),
-        Whereabouts::At(s) => Length::Of(s.len),
-    }
+    let s = lookup::find(setup, store, lens, addr)?;
+    Ok(s.len)
 }
 
 pub fn lent(setup: Setup, store: &[u8], lens: &[u16], addr: u64) -> Span
     requires { Sound setup store.now lens.now }
     ensures { Lends setup store.now lens.now addr result }
 {
-    let w = lookup::find(setup, store, lens, addr);
-    match w {
-        Whereabouts::Refused(_) => Span { from: 0, len: 0 },
-        Whereabouts::At(s) => s,
-    }
+    lookup::find(setup, store, lens, addr).unwrap_or(Span { from: 0, len: 0 })
 }

@@ -1,11 +1,11 @@
 -- What changes the record alone: setting the clock, enable, disable. They see the record alone: 3 for its clock and margin, 4.
-use Rattle.std.specs.Prelude.{Bool, ◌&&◌, [], ◌≡◌}
-use Rattle.rules.specs.Papers.{Outcome, after, done, no, refused, says}
+use Rattle.std.specs.Prelude.{Bool, ◌&&◌, [], ◌≡◌, Result, Ok, Err}
+use Rattle.rules.specs.Papers.{Outcome, Paper, after, done, no, refused, says}
 use Rattle.rules.specs.Tests.{unless}
 use Rattle.time.specs.Time.{in_range, margin_in_range}
 use Rattle.time.specs.declared.UnixTime.{UnixTime}
-use Rattle.record.specs.Refusals.{done_paper}
-use Rattle.record.specs.declared.Changed.{Changed}
+use Rattle.record.specs.Refusals.{paper}
+use Rattle.record.specs.declared.ScheduleRefusal.{ScheduleRefusal}
 use Rattle.record.specs.declared.Record.{Record}
 
 -- the record's clock and margin are in range
@@ -26,7 +26,16 @@ clock_in t r = unless (times_in_range r) (refused (no 3 [])) (unless (in_range t
 unfoldable pub mark_in : Bool → Record → Outcome Record
 mark_in on r = unless (times_in_range r) (refused (no 3 [])) (done [] (with_mark on r))
 
--- what a change promises: its answer, and the record after it, which is the record as it was where it refuses
-pub record Changes (o : Outcome Record) (r : Record) (c : Changed) : Type 0 where
-  pub answer : done_paper c.answer ≡ says o
-  pub next : c.next ≡ after o r (λ x. x)
+-- a change that answers the record after it: its answer's number and values, and that record, or the one that was where it refuses
+unfoldable pub changed_paper : Result Record ScheduleRefusal → Paper
+changed_paper (Ok next) = no 0 []
+changed_paper (Err e) = paper e
+
+unfoldable pub record_after : Record → Result Record ScheduleRefusal → Record
+record_after r (Ok next) = next
+record_after r (Err e) = r
+
+-- what a change promises: its answer, and the record after it
+pub record Changes (o : Outcome Record) (r : Record) (p : Paper) (r' : Record) : Type 0 where
+  pub answer : p ≡ says o
+  pub next : r' ≡ after o r (λ x. x)

@@ -1,11 +1,9 @@
 -- Document 01's number and values for each refusal of the schedule: the store's are inside.
-use Rattle.std.specs.Prelude.{ℕ, ◌-◌, ℤ, negsuc, pos, List, [], ◌∷◌}
+use Rattle.std.specs.Prelude.{Result, Ok, Err, ℕ, ◌-◌, ℤ, negsuc, pos, List, [], ◌∷◌}
 use Rattle.rules.specs.Papers.{Paper, no}
 use Rattle.lookup.specs.Refusals.{paper as store_paper}
 use Rattle.time.specs.declared.Margin.{Margin}
 use Rattle.time.specs.declared.UnixTime.{UnixTime}
-use Rattle.record.specs.declared.Done.{Done}
-use Rattle.record.specs.declared.Done.TheVariants as D
 use Rattle.record.specs.declared.ScheduleRefusal.{ScheduleRefusal}
 use Rattle.record.specs.declared.ScheduleRefusal.TheVariants.{BadTime, BadTimestamp, LogTooSmall, NestedScheduledTc, ReleaseTimeInTimeMargin, ReversedWindow, ScheduleFull, Store, TcDataEmpty, TcUnreadable, WrongService, WrongSubservice}
 
@@ -34,6 +32,6 @@ paper ScheduleFull = no 14 []
 paper ReversedWindow = no 15 []
 paper (LogTooSmall t) = no 20 (t ∷ [])
 
-unfoldable pub done_paper : Done → Paper
-done_paper D.Ok = no 0 []
-done_paper (D.Refused e) = paper e
+unfoldable pub done_paper : Result (Unit {0}) ScheduleRefusal → Paper
+done_paper (Ok _) = no 0 []
+done_paper (Err e) = paper e

@@ -2,15 +2,15 @@
 #![tactic(auto)]
 
 ghost use Rattle.std.specs.Prelude.{◌≡◌, false, true};
-ghost use Rattle.rules.specs.Papers.{after, says};
-ghost use Rattle.record.specs.Record.{Changes, clock_in, mark_in, times_in_range};
+ghost use Rattle.record.specs.Record.{Changes, changed_paper, clock_in, mark_in, record_after, times_in_range};
 ghost use Rattle.record.specs.Refusals.{done_paper};
+ghost use Rattle.record.specs.declared.ScheduleRefusal.TheVariants.{Store};
 
 use slots::StoreRefusal;
 use time::{Margin, UnixTime};
 
 // What the scheduler keeps beside its tables: the number of entries, the clock, the margin, and whether it is enabled.
-#[derive(Clone, Copy)]
+#[derive(Clone, Copy, PartialEq, Eq)]
 pub struct Record {
     pub count: usize,
     pub clock: UnixTime,
@@ -39,18 +39,13 @@ pub enum ScheduleRefusal {
     LogTooSmall(usize),
 }
 
-// The answer of a call that answers no values.
-#[derive(Clone, Copy)]
-pub enum Done {
-    Ok,
-    Refused(ScheduleRefusal),
-}
+// A call that asks the store hands the store's refusal on.
+impl From<StoreRefusal> for ScheduleRefusal {
+    ghost from_gives = { λ e r. r ≡ Store e };
 
-// The record after a change, and the change's answer.
-#[derive(Clone, Copy)]
-pub struct Changed {
-    pub next: Record,
-    pub answer: Done,
+    fn from(e: StoreRefusal) -> ScheduleRefusal {
+        ScheduleRefusal::Store(e)
+    }
 }
 
 impl Record {
@@ -58,93 +53,54 @@ impl Record {
     pub fn times_in_range(self) -> bool
         ensures { result ≡ times_in_range self }
     {
-        let clock = self.clock;
-        let margin = self.margin;
-        if clock.in_range() {
-            return margin.in_range();
-        }
-        false
+        self.clock.in_range() && self.margin.in_range()
     }
 
     // The record with the enabled mark at `on`.
-    pub fn marked(self, on: bool) -> Changed
-        ensures { Changes (mark_in on self) self result }
+    pub fn marked(self, on: bool) -> Result<Record, ScheduleRefusal>
+        ensures { Changes (mark_in on self) self (changed_paper result) (record_after self result) }
     {
-        if self.times_in_range() {
-            let clock = self.clock;
-            let margin = self.margin;
-            Changed {
-                next: Record {
-                    count: self.count,
-                    clock: clock,
-                    margin: margin,
-                    enabled: on,
-                },
-                answer: Done::Ok,
-            }
-        } else {
-            Changed {
-                next: self,
-                answer: Done::Refused(ScheduleRefusal::Store(StoreRefusal::StateDamaged)),
-            }
+        if !self.times_in_range() {
+            return Err(ScheduleRefusal::Store(StoreRefusal::StateDamaged));
         }
+        Ok(Record {
+            enabled: on,
+            ..self
+        })
     }
 
     // The record with the clock at a time, which may lie before the present one.
-    pub fn clocked(self, t: UnixTime) -> Changed
-        ensures { Changes (clock_in t self) self result }
+    pub fn clocked(self, t: UnixTime) -> Result<Record, ScheduleRefusal>
+        ensures { Changes (clock_in t self) self (changed_paper result) (record_after self result) }
     {
-        if self.times_in_range() {
-            if t.in_range() {
-                let margin = self.margin;
-                Changed {
-                    next: Record {
-                        count: self.count,
-                        clock: t,
-                        margin: margin,
-                        enabled: self.enabled,
-                    },
-                    answer: Done::Ok,
-                }
-            } else {
-                Changed {
-                    next: self,
-                    answer: Done::Refused(ScheduleRefusal::BadTime),
-                }
-            }
-        } else {
-            Changed {
-                next: self,
-                answer: Done::Refused(ScheduleRefusal::Store(StoreRefusal::StateDamaged)),
-            }
+        if !self.times_in_range() {
+            return Err(ScheduleRefusal::Store(StoreRefusal::StateDamaged));
         }
+        if !t.in_range() {
+            return Err(ScheduleRefusal::BadTime);
+        }
+        Ok(Record { clock: t, ..self })
     }
 }
 
 // The three calls that change the caller's record in place. They see the record alone.
-pub fn enable(r: &mut Record) -> Done
-    ensures { (done_paper result ≡ says (mark_in true r.old))
-        × (r.new ≡ after (mark_in true r.old) r.old (λ x. x)) }
+pub fn enable(r: &mut Record) -> Result<(), ScheduleRefusal>
+    ensures { Changes (mark_in true r.old) r.old (done_paper result) r.new }
 {
-    let c = Record::marked(*r, true);
-    *r = c.next;
-    c.answer
+    *r = r.marked(true)?;
+    Ok(())
 }
 
-pub fn disable(r: &mut Record) -> Done
-    ensures { (done_paper result ≡ says (mark_in false r.old))
-        × (r.new ≡ after (mark_in false r.old) r.old (λ x. x)) }
+pub fn disable(r: &mut Record) -> Result<(), ScheduleRefusal>
+    ensures { Changes (mark_in false r.old) r.old (done_paper result) r.new }
 {
-    let c = Record::marked(*r, false);
-    *r = c.next;
-    c.answer
+    *r = r.marked(false)?;
+    Ok(())
 }
 
-pub fn set_clock(r: &mut Record, t: UnixTime) -> Done
-    ensures { (done_paper result ≡ says (clock_in t r.old))
-        × (r.new ≡ after (clock_in t r.old) r.old (λ x. x)) }
+pub fn set_clock(r: &mut Record, t: UnixTime) -> Result<(), ScheduleRefusal>
+    ensures { Changes (clock_in t r.old) r.old (done_paper result) r.new }
 {
-    let c = Record::clocked(*r, t);
-    *r = c.next;
-    c.answer
+    *r = r.clocked(t)?;
+    Ok(())
 }

@@ -17,6 +17,7 @@ fn id_number(e: StoreIdError) -> u64
     }
 }
 
+#[tactic(auto, unfolding(lookup::specs::Refusals::paper))]
 pub fn of_store(e: StoreRefusal) -> u64
     ensures { result ≡ (store_paper e).number }
 {
@@ -28,10 +29,11 @@ pub fn of_store(e: StoreRefusal) -> u64
         StoreRefusal::StoreFull(_) => 12,
         StoreRefusal::InvalidStoreId(b) => id_number(b),
         StoreRefusal::DataDoesNotExist(_) => 18,
-        StoreRefusal::BufferTooSmall { found, expected } => 19,
+        StoreRefusal::BufferTooSmall { .. } => 19,
     }
 }
 
+#[tactic(auto, unfolding(record::specs::Refusals::paper))]
 pub fn of_schedule(e: ScheduleRefusal) -> u64
     ensures { result ≡ (paper e).number }
 {
@@ -44,11 +46,7 @@ pub fn of_schedule(e: ScheduleRefusal) -> u64
         ScheduleRefusal::BadTimestamp => 8,
         ScheduleRefusal::TcUnreadable => 9,
         ScheduleRefusal::NestedScheduledTc => 10,
-        ScheduleRefusal::ReleaseTimeInTimeMargin {
-            clock,
-            margin,
-            release,
-        } => 13,
+        ScheduleRefusal::ReleaseTimeInTimeMargin { .. } => 13,
         ScheduleRefusal::ScheduleFull => 14,
         ScheduleRefusal::ReversedWindow => 15,
         ScheduleRefusal::LogTooSmall(_) => 20,

@@ -4,11 +4,11 @@ ghost use Rattle.packet.specs.Packet.{id_word};
 
 use crate::refusals;
 use packet::RequestId;
-use record::Done;
-use store::Deleted;
-use storing::InsertAnswer;
+use record::ScheduleRefusal;
+use rows::TcInfo;
+use slots::StoreRefusal;
 use text::out;
-use tick::TickAnswer;
+use tick::Handed;
 
 // The ID whose number this is.
 fn id_of(id: u64) -> RequestId
@@ -28,40 +28,40 @@ pub fn request(rt: &impl Print, id: u64) {
     out::number(rt, b", sequence count ", r.seq_count as u64);
 }
 
-pub fn done(rt: &impl Print, a: Done) {
+pub fn done(rt: &impl Print, a: Result<(), ScheduleRefusal>) {
     match a {
-        Done::Ok => out::say(rt, b": accepted (0)\n"),
-        Done::Refused(e) => refusals::of_schedule(rt, e),
+        Ok(()) => out::say(rt, b": accepted (0)\n"),
+        Err(e) => refusals::of_schedule(rt, e),
     }
 }
 
-pub fn inserted(rt: &impl Print, a: InsertAnswer) {
+pub fn inserted(rt: &impl Print, a: Result<TcInfo, ScheduleRefusal>) {
     match a {
-        InsertAnswer::Inserted(i) => {
+        Ok(i) => {
             out::number(rt, b": accepted (0), stored at address ", i.addr);
             out::say(rt, b", ");
             request(rt, i.request_id);
             out::say(rt, b"\n");
         }
-        InsertAnswer::Refused(e) => refusals::of_schedule(rt, e),
+        Err(e) => refusals::of_schedule(rt, e),
     }
 }
 
-pub fn deleted(rt: &impl Print, a: Deleted) {
+pub fn deleted(rt: &impl Print, a: Result<(), StoreRefusal>) {
     match a {
-        Deleted::Done => out::say(rt, b": deleted (0)\n"),
-        Deleted::Refused(e) => refusals::of_store(rt, e),
+        Ok(()) => out::say(rt, b": deleted (0)\n"),
+        Err(e) => refusals::of_store(rt, e),
     }
 }
 
 // How many entries were handed out, and how many due ones remain.
-pub fn ticked(rt: &impl Print, a: TickAnswer) {
+pub fn ticked(rt: &impl Print, a: Result<Handed, ScheduleRefusal>) {
     match a {
-        TickAnswer::HandedOut(h) => {
+        Ok(h) => {
             out::number(rt, b": accepted (0), handed out ", h.m as u64);
             out::number(rt, b", due and left ", h.remain as u64);
             out::say(rt, b"\n");
         }
-        TickAnswer::Refused(e) => refusals::of_schedule(rt, e),
+        Err(e) => refusals::of_schedule(rt, e),
     }
 }

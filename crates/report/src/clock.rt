@@ -1,7 +1,8 @@
 // Times as a date and a time of day in UTC: written, and read from a line.
 ghost use Rattle.std.specs.Prelude.{◌≤◌};
 
-use text::{line, out};
+use text::line::Line;
+use text::out;
 use time::{Moment, UnixTime};
 use utc::Date;
 
@@ -58,20 +59,12 @@ fn since_1970(rt: &impl Print, s: u64) {
     time_of_day(rt, s % 86400);
 }
 
-// The place behind the first mark from a place on.
-fn behind(text: &[u8], at: usize, mark: u8) -> usize {
-    let m = line::end(text, at, mark);
-    if m < text.len() {
-        return m + 1;
+// What stands behind the first mark; nothing where there is none.
+fn behind(text: &[u8], mark: u8) -> &[u8] {
+    match text.iter().position(|b| *b == mark) {
+        Some(at) => &text[at + 1..],
+        None => b"",
     }
-    m
-}
-
-fn number_at(text: &[u8], at: usize) -> u64 {
-    if at >= text.len() {
-        return 0;
-    }
-    line::number(&text[at..], 0)
 }
 
 fn seconds(day: u64, h: u64, m: u64, s: u64) -> i64
@@ -81,24 +74,24 @@ fn seconds(day: u64, h: u64, m: u64, s: u64) -> i64
 }
 
 // Words k and k + 1, as 2026-11-15 06:10:00.
-pub fn read(text: &[u8], k: usize) -> UnixTime {
-    let y = line::word(text, k);
-    let m = behind(text, y, b'-');
-    let d = behind(text, m, b'-');
-    let h = behind(text, d, b' ');
-    let min = behind(text, h, b':');
-    let s = behind(text, min, b':');
-    let day = utc::day_of(Date {
-        year: number_at(text, y),
-        month: number_at(text, m),
-        day: number_at(text, d),
+pub fn read(line: Line, k: usize) -> UnixTime {
+    let year = line.rest(k);
+    let month = behind(year, b'-');
+    let day = behind(month, b'-');
+    let hour = behind(day, b' ');
+    let minute = behind(hour, b':');
+    let second = behind(minute, b':');
+    let date = utc::day_of(Date {
+        year: Line(year).number(0),
+        month: Line(month).number(0),
+        day: Line(day).number(0),
     });
     UnixTime {
         secs: seconds(
-            day,
-            number_at(text, h),
-            number_at(text, min),
-            number_at(text, s),
+            date,
+            Line(hour).number(0),
+            Line(minute).number(0),
+            Line(second).number(0),
         ),
         nanos: 0,
     }

@@ -3,31 +3,23 @@ ghost use Rattle.std.specs.Prelude.{◌≡◌};
 ghost use Rattle.shift_totals.specs.Tally.{tally_found, tally_log};
 
 use crate::{answers, clock};
-use log_reader::{Found, Item};
+use log_reader::Item;
 use shift_totals::Totals;
 use text::out;
 use time::UnixTime;
 
 fn fate(rt: &impl Print, flag: u8) {
-    if flag == 1 {
-        out::say(rt, b"  released,  ");
-        return;
+    match flag {
+        1 => out::say(rt, b"  released,  "),
+        0 => out::say(rt, b"  discarded, "),
+        _ => out::say(rt, b"  MISSING,   "),
     }
-    if flag == 0 {
-        out::say(rt, b"  discarded, ");
-        return;
-    }
-    out::say(rt, b"  MISSING,   ");
 }
 
 fn packet(rt: &impl Print, log: &[u8], from: usize, to: usize) {
-    if to > log.len() {
-        return;
+    if from <= to && to <= log.len() {
+        out::bytes(rt, &log[from..to]);
     }
-    if from > to {
-        return;
-    }
-    out::bytes(rt, &log[from..to]);
 }
 
 fn line(rt: &impl Print, at: UnixTime, log: &[u8], it: Item) {
@@ -40,15 +32,15 @@ fn line(rt: &impl Print, at: UnixTime, log: &[u8], it: Item) {
     out::say(rt, b"\n");
 }
 
-fn one(rt: &impl Print, t: Totals, at: UnixTime, log: &[u8], f: Found) -> Totals
+fn one(rt: &impl Print, t: Totals, at: UnixTime, log: &[u8], f: Option<Item>) -> Totals
     ensures { result ≡ tally_found f t }
 {
     match f {
-        Found::Record(it) => {
+        Some(it) => {
             line(rt, at, log, it);
             t.with(it.flag)
         }
-        Found::Outside => {
+        None => {
             out::say(rt, b"    a record lies outside the log\n");
             t
         }
@@ -61,10 +53,8 @@ pub fn all(rt: &impl Print, start: Totals, at: UnixTime, log: &[u8]) -> Totals
 {
     let n = log_reader::count(log);
     let mut t = start;
-    let mut i: usize = 0;
-    while i < n {
+    for i in 0..n {
         t = one(rt, t, at, log, log_reader::record_at(log, i));
-        i += 1;
     }
     t
 }

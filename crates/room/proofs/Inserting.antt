@@ -1,12 +1,13 @@
 -- The insertions on the smaller scheduler and on the larger.
+use Rattle.std.specs.Prelude.{Option, Some, None, Result, Ok, Err}
+use Rattle.packet.specs.declared.Header.{Header}
+use Rattle.packet.specs.declared.Fault.{Fault}
 use Prim.Native.Nat.{◌<◌, ◌≤◌, ℕ}
 use Rattle.insertions.specs.Inserting.{activity, insert_unwrapped_in}
 use Rattle.storing.specs.Entered.{entered}
 use Rattle.gate.specs.Entering.{enter, insert_stored_in, timed}
 use Rattle.wrapped.specs.Wrapped.{insert_wrapped_in, opened, stamped}
 use Rattle.packet.specs.Packet.{read_of, user_data_of}
-use Rattle.packet.specs.declared.Reading.{Reading}
-use Rattle.packet.specs.declared.Reading.TheVariants.{Packet, Unreadable}
 use Rattle.room.proofs.Alike.{Alike, answered_too, answers, by_room, by_test, refused_too, refuses}
 use Rattle.room.proofs.Entries.{insert_slots}
 use Rattle.room.proofs.States.{AlikeStates}
@@ -18,7 +19,6 @@ use Rattle.schedule.specs.State.{State, with_pools}
 use Rattle.schedule.specs.declared.Setup.{Setup}
 use Rattle.stamp.specs.Stamp.{stamp_of}
 use Rattle.stamp.specs.declared.Stamp.{Stamp}
-use Rattle.stamp.specs.declared.Stamp.TheVariants.{At, Refused}
 use Rattle.slots.specs.Pools.{Pool}
 use Rattle.rows.specs.Entries.{entry_of}
 use Rattle.time.specs.Time.{moment_of}
@@ -51,22 +51,22 @@ module _ (su lu : Setup) (more : su.entries ≤ lu.entries) (ns ks : List ℕ) w
       rw (answered_too _ _ vs ps o' a) (enters t id (get_or vs 0 0) _ (with_pools ps s) (record { shaped = a.left.0; named = f.named }) a.left.1)
 
   module _ (off : su.store.spill ≡ false) (narrow : Narrow ns) (few : length ns ≤ 256) (s : State) (fits : Fit ns s) where
-    command : (t : UnixTime) (tc : List ℕ) (r : Reading) → AlikeStates ns ks (activity su t tc s r) (activity lu t tc (grown ks s) r)
+    command : (t : UnixTime) (tc : List ℕ) (r : Result Header Fault) → AlikeStates ns ks (activity su t tc s r) (activity lu t tc (grown ks s) r)
     unfolding activity
-    command t tc (Unreadable x) = refuses _ _ _
-    command t tc (Packet h) =
+    command t tc (Err x) = refuses _ _ _
+    command t tc (Ok h) =
         by_test _ _ _ _ _ _ _ (refuses _ _ _)
         (stored_too t _ s fits _ _ (adds ns ks s.pools fits.shaped narrow few tc _ _ off))
 
-    from_stamp : (d : List ℕ) (x : Stamp) → AlikeStates ns ks (stamped su d s x) (stamped lu d (grown ks s) x)
+    from_stamp : (d : List ℕ) (x : Option Stamp) → AlikeStates ns ks (stamped su d s x) (stamped lu d (grown ks s) x)
     unfolding stamped
-    from_stamp d Refused = refuses _ _ _
-    from_stamp d (At t n) = command t (drop n d) (read_of 2 (drop n d))
+    from_stamp d None = refuses _ _ _
+    from_stamp d (Some x) = command x.time (drop x.len d) (read_of 2 (drop x.len d))
 
-    from_outer : (d : List ℕ) (r : Reading) → AlikeStates ns ks (opened su d s r) (opened lu d (grown ks s) r)
+    from_outer : (d : List ℕ) (r : Result Header Fault) → AlikeStates ns ks (opened su d s r) (opened lu d (grown ks s) r)
     unfolding opened
-    from_outer d (Unreadable x) = refuses _ _ _
-    from_outer d (Packet h) =
+    from_outer d (Err x) = refuses _ _ _
+    from_outer d (Ok h) =
         by_test _ _ _ _ _ _ _ (refuses _ _ _)
         (by_test _ _ _ _ _ _ _ (refuses _ _ _) (by_test _ _ _ _ _ _ _ (refuses _ _ _) (from_stamp d (stamp_of d))))
 

@@ -1,11 +1,13 @@
 -- Entries and the words that they are kept in: rows read, and entries packed.
-use Prim.Native.Nat.{◌*◌, ◌+◌, ◌-◌, ◌<◌, ◌≤◌, max, suc, zero, ℕ}
-use Rattle.rows.specs.Entries.{Entry, pack, relaid, row, unpack, width, words}
-use lib.ListN.{drop, drop_of_length-le, get_or, length, length-append, length-drop, length-replicate, replicate, take, take-append-drop}
+use Prim.Native.Nat.{◌*◌, ◌+◌, ◌-◌, ◌/◌, ◌<◌, ◌≤◌, max, suc, zero, ℕ}
+use Rattle.rows.specs.Entries.{Entry, entries, entry, nth, pack, relaid, row, unpack, width, words}
+use Rattle.std.proofs.lemmas.List.{drop_more, get_or-map, get_or-take, take_rest}
+use Rattle.std.specs.Simd.{first_chunks}
+use lib.ListN.{drop, drop_of_length-le, get_or, length, length-append, length-drop, length-map, length-replicate, replicate, take, take-append-drop}
 use lib.Seq.{drop-cons, drop-drop, get_or-drop, take-add}
 use mathlib.Core.List.{List, [], ◌++◌, ◌∷◌, append_assoc, append-nil}
 use mathlib.Core.Path.{◌∙◌, ◌≡◌, ap, refl, sym}
-use native.Mathlib.Nat.{le_of_suc-le-suc, not-suc-le-zero, sub-zero}
+use native.Mathlib.Nat.{le_of_suc-le-suc, not-suc-le-zero, sub-zero, suc-mul, zero-mul}
 use native.Mathlib.Numerals.{add-one}
 use native.Mathlib.Omega.{arith}
 
@@ -63,6 +65,56 @@ drop_unpack (suc n) w (suc i) h =
     drop_unpack n (drop width w) i (le_of_suc-le-suc h)
     ∙ ap (λ (k : ℕ). unpack k (drop (i * width) (drop width w))) e
     ∙ ap (λ (r : List ℕ). unpack (suc n - suc i) r) (drop-drop (i * width) width w ∙ ap (λ (k : ℕ). drop k w) f)
+
+-- ---- rows by themselves
+
+row_is : (w : List ℕ) → entry (take width w) ≡ row w 0
+row_is w =
+    let at = λ (i : ℕ) (l : i < width). get_or-take width w i 0 l in
+    entry≡ (at 0 (omega arith)) (at 1 (omega arith)) (at 2 (omega arith)) (at 3 (omega arith))
+
+pub table_is : (n k : ℕ) (w : List ℕ) → n ≤ k → entries (take n (first_chunks width k w)) ≡ unpack n w
+unfolding unpack
+table_is zero k w h = refl
+table_is (suc n) zero w h = absurd (not-suc-le-zero h)
+table_is (suc n) (suc k) w h =
+    ap (λ (e : Entry). e ∷ entries (take n (first_chunks width k (drop width w)))) (row_is w)
+    ∙ ap (λ (r : List Entry). row w 0 ∷ r) (table_is n k (drop width w) (le_of_suc-le-suc h))
+
+pub nth_split : (t : List (List ℕ)) (i : ℕ) → i < length t → drop i (entries t) ≡ nth t i ∷ drop (i + 1) (entries t)
+nth_split t i h =
+    drop_more (entries t) i (entry []) (simp length-map h)
+    ∙ ap (λ (e : Entry). e ∷ drop (i + 1) (entries t)) (get_or-map entry t i [] (entry []) h)
+
+-- row j of a part of the rows, from row i on
+pub nth_later : (t : List (List ℕ)) (i j : ℕ) → nth (take (length t - i) (drop i t)) j ≡ nth t (i + j)
+nth_later t i j = ap (λ (u : List (List ℕ)). nth u j) (take_rest t i) ∙ ap entry (get_or-drop i t j [])
+
+-- chunk k, of n at a time
+chunk_at : {X : Type 0} → (n m k : ℕ) (xs : List X) (d : List X) → k < m → get_or (first_chunks n m xs) k d ≡ take n (drop (k * n) xs)
+chunk_at n zero k xs d h = absurd (not-suc-le-zero h)
+chunk_at n (suc m) zero xs d h = simp zero-mul refl
+chunk_at n (suc m) (suc k) xs d h =
+    let e : n + k * n ≡ suc k * n = simp suc-mul (omega arith) in
+    chunk_at n m k (drop n xs) d (le_of_suc-le-suc h)
+    ∙ ap (take n) (drop-drop (k * n) n xs ∙ ap (λ (j : ℕ). drop j xs) e)
+
+-- the rows, four at a time
+module _ (t : List (List ℕ)) (k : ℕ) (h : k < length t / 4) (f : List (List ℕ)) (q : f ≡ get_or (first_chunks 4 (length t / 4) t) k []) where
+  of_four : (j i i' : ℕ) → j < 4 → i ≡ k * 4 + j → i' ≡ i + 1 → drop i (entries t) ≡ nth f j ∷ drop i' (entries t)
+  of_four j i i' l e e' =
+      let a : get_or f j [] ≡ get_or t i []
+      = ap (λ (u : List (List ℕ)). get_or u j []) (q ∙ chunk_at 4 (length t / 4) k t [] h)
+      ∙ get_or-take 4 (drop (k * 4) t) j [] l
+      ∙ get_or-drop (k * 4) t j [] ∙ ap (λ (x : ℕ). get_or t x []) (sym e) in
+      rw (a, e') (nth_split t i (omega arith))
+
+  pub four_split : drop (k * 4) (entries t) ≡ nth f 0 ∷ nth f 1 ∷ nth f 2 ∷ nth f 3 ∷ drop (k * 4 + 4) (entries t)
+  four_split =
+      of_four 0 (k * 4) (k * 4 + 1) (omega arith) (omega arith) (omega arith)
+      ∙ ap (λ (r : List Entry). nth f 0 ∷ r) (of_four 1 (k * 4 + 1) (k * 4 + 2) (omega arith) (omega arith) (omega arith))
+      ∙ ap (λ (r : List Entry). nth f 0 ∷ nth f 1 ∷ r) (of_four 2 (k * 4 + 2) (k * 4 + 3) (omega arith) (omega arith) (omega arith))
+      ∙ ap (λ (r : List Entry). nth f 0 ∷ nth f 1 ∷ nth f 2 ∷ r) (of_four 3 (k * 4 + 3) (k * 4 + 4) (omega arith) (omega arith) (omega arith))
 
 -- ---- entries packed
 

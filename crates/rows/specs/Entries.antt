@@ -1,5 +1,5 @@
 -- The schedule as a list of entries, and the rows of words that it is kept in (document 01, module 5 and "Sizes").
-use Rattle.std.specs.Prelude.{◌*◌, ◌+◌, ◌-◌, max, suc, zero, ℕ, drop, get_or, length, replicate, List, [], ◌++◌, ◌∷◌}
+use Rattle.std.specs.Prelude.{◌*◌, ◌+◌, ◌-◌, max, suc, zero, ℕ, drop, get_or, length, map, replicate, List, [], ◌++◌, ◌∷◌}
 use Rattle.time.specs.Time.{instant_of}
 use Rattle.time.specs.declared.Moment.{Moment}
 
@@ -30,6 +30,16 @@ row w i =
       id = get_or w (i * width + 2) 0;
       addr = get_or w (i * width + 3) 0;
     }
+
+-- a row that stands by itself, and rows that do
+abbrev pub entry : List ℕ → Entry
+entry r = record { secs = get_or r 0 0; nanos = get_or r 1 0; id = get_or r 2 0; addr = get_or r 3 0 }
+
+abbrev pub entries : List (List ℕ) → List Entry
+entries t = map entry t
+
+abbrev pub nth : List (List ℕ) → ℕ → Entry
+nth t i = entry (get_or t i [])
 
 -- the first n rows
 unfoldable pub unpack : ℕ → List ℕ → List Entry

@@ -2,8 +2,8 @@
 // ID and where its packet lies.
 #![tactic(auto)]
 
-ghost use Rattle.std.specs.Prelude.{◌≡◌, ◌<◌};
-ghost use Rattle.rows.specs.Entries.{row};
+ghost use Rattle.std.specs.Prelude.{◌≡◌, ◌<◌, length};
+ghost use Rattle.rows.specs.Entries.{entries, row, unpack};
 ghost use Rattle.rows.specs.Order.{Held};
 
 pub mod judge;
@@ -11,6 +11,18 @@ pub mod judge;
 // The words of a row: seconds counted from -2^42, nanoseconds, request ID, address.
 // This layout is known to `tc_info`, `judge`, `table`, `selection::find` and `table_edit` alone.
 pub const ROW: usize = 4;
+
+pub type Row = [u64; ROW];
+
+// The first rows, each by itself.
+pub fn table(rows: &[u64], count: usize) -> &[Row]
+    requires { Held rows.now count }
+    ensures entries { entries result.now ≡ unpack count rows.now }
+    ensures length { length result.now ≡ count }
+{
+    let (all, _) = rows.as_chunks::<ROW>();
+    &all[..count]
+}
 
 // What an entry says of its packet.
 #[derive(Clone, Copy)]

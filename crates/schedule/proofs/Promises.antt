@@ -1,4 +1,5 @@
 -- The promises, from what the code did to the record and the lists.
+use Rattle.std.specs.Prelude.{Result, Err}
 use Prim.Native.Nat.{◌≤◌, ℕ}
 use lib.ListN.{length}
 use mathlib.Core.List.{List}
@@ -18,8 +19,6 @@ use Rattle.schedule.specs.State.{State, record_of, state_of, with_count}
 use Rattle.schedule.specs.declared.Setup.{Setup}
 use Rattle.record.specs.Refusals.{paper}
 use Rattle.record.specs.declared.ScheduleRefusal.{ScheduleRefusal}
-use Rattle.schedule.specs.declared.Verdict.{Verdict}
-use Rattle.schedule.specs.declared.Verdict.TheVariants as Ve
 use Rattle.schedule.proofs.Judging.{judging_refused}
 use Rattle.schedule.proofs.Facts.{facts}
 
@@ -80,9 +79,9 @@ module _ (su : Setup) (r : Record) (st le ro : List ℕ) (call : State → Outco
         rows = d.rows;
       })
 
-  pub writes_refused : (v : Verdict) (e : ScheduleRefusal) → Judges su r st le ro v → v ≡ Ve.Refused e
+  pub writes_refused : (e : ScheduleRefusal) → Judges su r st le ro (Err e)
       → Writes su r st le ro (judging su r st le ro call) (paper e) r st le ro
-  writes_refused v e j q = refused_writes r.count su r st le ro (judging su r st le ro call) (paper e) (judging_refused su r st le ro call v e j q)
+  writes_refused e j = refused_writes r.count su r st le ro (judging su r st le ro call) (paper e) (judging_refused su r st le ro call e j)
 
 -- calls that come to the same here promise the same
 pub does_as : (su : Setup) (r : Record) (st le ro : List ℕ) (f g : State → Outcome State) (p : Paper) (r' : Record) (st' le' ro' : List ℕ)

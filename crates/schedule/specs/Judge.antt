@@ -1,5 +1,6 @@
 -- Refusals 1 to 3 over setup, record, store and rows together, in their order: all of 1, then all of 2, then all of 3.
-use Rattle.std.specs.Prelude.{◌*◌, ℕ, leb, length, Bool, true, List, [], ◌∷◌, ◌≡◌}
+use Rattle.std.specs.Prelude.{Result, None, ◌*◌, ℕ, leb, length, Bool, true, List, [], ◌∷◌, ◌≡◌}
+use Rattle.record.specs.declared.ScheduleRefusal.{ScheduleRefusal}
 use Rattle.record.specs.Record.{times_in_range}
 use Rattle.record.specs.declared.Record.{Record}
 use Rattle.rules.specs.Papers.{Outcome, done, judged_by, says}
@@ -7,10 +8,9 @@ use Rattle.rules.specs.Tests.{all_of}
 use Rattle.layout.specs.Judge.{buffers_ok as store_buffers_ok, lens_ok, setup_ok as store_setup_ok}
 use Rattle.rows.specs.Entries.{unpack, width}
 use Rattle.rows.specs.Order.{max_entries, ordered}
-use Rattle.schedule.specs.Answers.{verdict_paper}
+use Rattle.record.specs.Refusals.{done_paper}
 use Rattle.schedule.specs.State.{State, state_of}
 use Rattle.schedule.specs.declared.Setup.{Setup}
-use Rattle.schedule.specs.declared.Verdict.{Verdict}
 
 -- 1, BadSetup: the store's sizes, and 1 to 4,096 entries
 unfoldable pub setup_ok : Setup → Bool
@@ -37,8 +37,8 @@ judging su r st le ro call =
     judged_by (setup_ok su) (buffers_ok su (length st) (length le) (length ro)) (state_ok su r le ro) (call (state_of su r st le ro))
 
 -- what judging alone answers: none of 1 to 3, or which of them every call is given
-abbrev pub Judges : Setup → Record → List ℕ → List ℕ → List ℕ → Verdict → Type 0
-Judges su r st le ro v = verdict_paper v ≡ says (judging {A = Unit {0}} su r st le ro (λ s. done [] tt))
+abbrev pub Judges : Setup → Record → List ℕ → List ℕ → List ℕ → Result (Unit {0}) ScheduleRefusal → Type 0
+Judges su r st le ro v = done_paper v ≡ says (judging {A = Unit {0}} su r st le ro (λ s. done [] tt))
 
 -- None of 1 to 3 is given: what a judged call asks of its caller, and gives back.
 pub record Sound (su : Setup) (r : Record) (st le ro : List ℕ) : Type 0 where

@@ -13,9 +13,7 @@ const MAX_ENTRIES: usize = 4096;
 pub fn setup_ok(setup: Setup) -> bool
     ensures { result ≡ setup_ok setup }
 {
-    let s = setup.store;
-    let ok = layout::setup_ok(s);
-    if !ok {
+    if !layout::setup_ok(setup.store) {
         return false;
     }
     if setup.entries < 1 {
@@ -28,9 +26,7 @@ pub fn buffers_ok(setup: Setup, room: usize, lens: usize, rows: usize) -> bool
     requires { setup_ok setup ≡ true }
     ensures { result ≡ buffers_ok setup room lens rows }
 {
-    let s = setup.store;
-    let ok = layout::buffers_ok(s, room, lens);
-    if !ok {
+    if !layout::buffers_ok(setup.store, room, lens) {
         return false;
     }
     setup.entries * ROW <= rows
@@ -43,14 +39,11 @@ pub fn state_ok(setup: Setup, rec: Record, lens: &[u16], rows: &[u64]) -> bool
     if setup.entries < rec.count {
         return false;
     }
-    let times = rec.times_in_range();
-    if !times {
+    if !rec.times_in_range() {
         return false;
     }
-    let order = rows::judge::in_order(rows, rec.count);
-    if !order {
+    if !rows::judge::in_order(rows, rec.count) {
         return false;
     }
-    let s = setup.store;
-    layout::lens_ok(s, lens)
+    layout::lens_ok(setup.store, lens)
 }

@@ -1,4 +1,5 @@
 -- Refusal 13, and an answer that carries another, from the words that they hold.
+use Rattle.std.specs.Prelude.{Option, Some, None}
 use Prim.Native.Nat.{ℕ}
 use Rattle.sweep.specs.Answers.{last_paper}
 use Rattle.face_words.specs.Inside.{words_of}
@@ -7,13 +8,10 @@ use Rattle.rules.specs.Papers.{Paper, no}
 use Rattle.schedule_answers.specs.Inside.{carrying}
 use mathlib.Core.List.{List, [], ◌∷◌}
 use mathlib.Core.Path.{◌∙◌, ◌≡◌, ap, refl}
-use Rattle.sweep.specs.declared.Last.{Last}
-use Rattle.sweep.specs.declared.Last.TheVariants as La
 use Rattle.lookup.specs.Refusals.{paper as store_paper}
 use Rattle.slots.specs.declared.StoreIdError.TheVariants.{InvalidPacketIdx, InvalidSubpool}
 use Rattle.slots.specs.declared.StoreRefusal.{StoreRefusal}
-use Rattle.slots.specs.declared.StoreRefusal.TheVariants.{BadBuffers, BadSetup, BufferTooSmall, DataDoesNotExist}
-use Rattle.slots.specs.declared.StoreRefusal.TheVariants.{DataTooLarge, InvalidStoreId, StateDamaged, StoreFull}
+use Rattle.slots.specs.declared.StoreRefusal.TheVariants.{BadBuffers, BadSetup, BufferTooSmall, DataDoesNotExist, DataTooLarge, InvalidStoreId, StateDamaged, StoreFull}
 use Rattle.face_words.specs.declared.Words.{Words}
 
 -- refusal 13's six values
@@ -52,7 +50,7 @@ store_few (InvalidStoreId (InvalidPacketIdx i)) = tt
 store_few (DataDoesNotExist a) = tt
 store_few (BufferTooSmall f x) = refl
 
-pub last_few : (l : Last) → Few (last_paper l).values
+pub last_few : (l : Option StoreRefusal) → Few (last_paper l).values
 unfolding last_paper
-last_few La.None = tt
-last_few (La.Missing e) = store_few e
+last_few None = tt
+last_few (Some e) = store_few e

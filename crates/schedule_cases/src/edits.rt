@@ -1,128 +1,68 @@
-// What a line does beside calls of the scheduler: the setup, what is lent, damage; and what it shows.
-use crate::{line, state};
-use lent::Lent;
+// What a line changes of what the calls are given: the setup, how much is lent, the record; and damage.
+use crate::Small;
+use crate::kind::Edit;
+use lent::{Bench, Part};
 use record::Record;
 use schedule::Setup;
+use text::line::Line;
 
-pub fn edit(
-    rt: &impl Print,
-    b: Lent,
-    k: usize,
-    text: &[u8],
-    store: &mut [u8; 120],
-    lens: &mut [u16; 7],
-    rows: &mut [u64; 20],
-) -> Lent {
-    if k == line::SHOW {
-        show(rt, b, text, store, lens, rows);
-        return b;
-    }
-    damage(b, k, text, store, lens, rows);
-    given(b, k, text)
-}
-
-// A packet taken from under the schedule, a length or a word of a row; any other line does none of these.
-fn damage(
-    b: Lent,
-    k: usize,
-    text: &[u8],
-    store: &mut [u8; 120],
-    lens: &mut [u16; 7],
-    rows: &mut [u64; 20],
-) {
-    if k == line::VANISH {
-        vanish(b, text, store, lens);
-    }
-    if k == line::LENGTH {
-        lent::set_length(lens, line::index(text, 1), line::short(text, 2));
-    }
-    if k == line::WORD {
-        lent::set_word(rows, line::index(text, 1), line::number(text, 2));
+// Nothing is set up, and nothing lent.
+pub fn bench() -> Small {
+    let none = Line(b"");
+    Bench {
+        setup: setup(none),
+        rec: record(none),
+        part: part(none),
+        store: [238; 120],
+        lens: [60000; 7],
+        rows: [77; 20],
     }
 }
 
-fn show(rt: &impl Print, b: Lent, text: &[u8], store: &[u8], lens: &[u16], rows: &[u64]) {
-    let k = line::which(text, 1, b"record store lengths rows");
-    if k == 0 {
-        state::record(rt, b.rec);
-    }
-    if k == 1 {
-        state::bytes(rt, store);
-    }
-    if k == 2 {
-        state::lens(rt, lens);
-    }
-    if k == 3 {
-        state::rows(rt, rows);
+pub fn run(bench: &mut Small, edit: Edit, line: Line) {
+    match edit {
+        Edit::Setup => bench.setup = setup(line),
+        Edit::Lend => bench.part = part(line),
+        Edit::Record => bench.rec = record(line),
+        Edit::Length => lent::set(&mut bench.lens, line.index(1), line.short(2)),
+        Edit::Word => lent::set(&mut bench.rows, line.index(1), line.number(2)),
+        Edit::Vanish => vanish(bench, line.number(1)),
     }
 }
 
 // A packet that the store's own deletion takes from under the schedule.
-fn vanish(b: Lent, text: &[u8], store: &mut [u8], lens: &mut [u16]) {
-    let setup = b.setup;
-    store_public::delete(setup.store, store, lens, line::number(text, 1));
-}
-
-fn given(b: Lent, k: usize, text: &[u8]) -> Lent {
-    let rec = b.rec;
-    if k == line::SETUP {
-        return Lent {
-            setup: setup(text),
-            rec: rec,
-            room: b.room,
-            lens: b.lens,
-            rows: b.rows,
-        };
-    }
-    if k == line::LEND {
-        return lend(b.setup, b.rec, text);
-    }
-    if k == line::RECORD {
-        return lent::with_record(b, record(text));
-    }
-    b
+fn vanish(bench: &mut Small, addr: u64) {
+    let _ = store_public::delete(bench.setup.store, &mut bench.store, &mut bench.lens, addr);
 }
 
 // How many bytes, lengths and words of rows.
-fn lend(setup: Setup, rec: Record, text: &[u8]) -> Lent {
-    Lent {
-        setup: setup,
-        rec: rec,
-        room: line::index(text, 1),
-        lens: line::index(text, 2),
-        rows: line::index(text, 3),
+fn part(line: Line) -> Part {
+    Part {
+        room: line.index(1),
+        lens: line.index(2),
+        rows: line.index(3),
     }
 }
 
-// Nothing is set up, and nothing lent.
-pub fn none() -> Lent {
-    lend(setup(b""), record(b""), b"")
-}
-
 // Subpools, size and slots of the first, size and slots of the second, entries, and whether it spills.
-fn setup(text: &[u8]) -> Setup {
-    let sizes = [line::short(text, 2), line::short(text, 4), 0, 0, 0, 0, 0, 0];
-    let slots = [line::short(text, 3), line::short(text, 5), 0, 0, 0, 0, 0, 0];
-    let s = layout::Setup {
-        pools: line::index(text, 1),
-        sizes: sizes,
-        slots: slots,
-        spill: line::number(text, 7) == 1,
-    };
+fn setup(line: Line) -> Setup {
     Setup {
-        store: s,
-        entries: line::index(text, 6),
+        store: layout::Setup {
+            pools: line.index(1),
+            sizes: [line.short(2), line.short(4), 0, 0, 0, 0, 0, 0],
+            slots: [line.short(3), line.short(5), 0, 0, 0, 0, 0, 0],
+            spill: line.number(7) == 1,
+        },
+        entries: line.index(6),
     }
 }
 
 // The count, the clock, the margin, and whether it is enabled.
-fn record(text: &[u8]) -> Record {
-    let clock = line::time(text, 2);
-    let margin = line::margin(text, 4);
+fn record(line: Line) -> Record {
     Record {
-        count: line::index(text, 1),
-        clock: clock,
-        margin: margin,
-        enabled: line::number(text, 6) == 1,
+        count: line.index(1),
+        clock: line.time(2),
+        margin: line.margin(4),
+        enabled: line.number(6) == 1,
     }
 }

@@ -1,4 +1,8 @@
 -- Each refusal of the schedule, and each answer of its calls, found again from its number and values.
+use Rattle.std.specs.Prelude.{Result, Ok, Err, Option, Some, None}
+use Rattle.rows.specs.declared.TcInfo.{TcInfo}
+use Rattle.selection.specs.declared.Part.{Part}
+use Rattle.tick.specs.declared.Handed.{Handed}
 use Rattle.rules.proofs.Back.{answer_of}
 use Prim.Native.Nat.{ℕ}
 use Rattle.deletions.specs.Answers.{cleared_paper}
@@ -6,41 +10,20 @@ use Rattle.sweep.specs.Answers.{last_paper}
 use Rattle.by_id.specs.Answers.{freed_paper, taken_paper}
 use Rattle.tick.specs.Promise.{tick_paper}
 use Rattle.windows.specs.Answers.{retrieved_paper}
-use Rattle.deletions.specs.declared.ClearAnswer.TheVariants as Cl
-use Rattle.deletions.specs.declared.ClearAnswer.{ClearAnswer}
-use Rattle.by_id.specs.declared.FreeAnswer.TheVariants as F
-use Rattle.by_id.specs.declared.FreeAnswer.{FreeAnswer}
-use Rattle.sweep.specs.declared.Last.TheVariants as La
-use Rattle.sweep.specs.declared.Last.{Last}
-use Rattle.windows.specs.declared.Retrieved.TheVariants as R
-use Rattle.windows.specs.declared.Retrieved.{Retrieved}
-use Rattle.by_id.specs.declared.TakeAnswer.TheVariants as Ta
-use Rattle.by_id.specs.declared.TakeAnswer.{TakeAnswer}
 use Rattle.sweep.specs.declared.Tally.{Tally}
 use Rattle.storing.specs.Answers.{inserted_paper}
-use Rattle.storing.specs.declared.InsertAnswer.TheVariants as I
-use Rattle.storing.specs.declared.InsertAnswer.{InsertAnswer}
 use Rattle.record.proofs.Numbers.{numbered}
 use Rattle.record.specs.Refusals.{done_paper, paper, word_of}
-use Rattle.record.specs.declared.Done.TheVariants as D
-use Rattle.record.specs.declared.Done.{Done}
 use Rattle.record.specs.declared.ScheduleRefusal.TheVariants.{BadTime, BadTimestamp, LogTooSmall, NestedScheduledTc, ReleaseTimeInTimeMargin, ReversedWindow, ScheduleFull, Store, TcDataEmpty, TcUnreadable, WrongService, WrongSubservice}
 use Rattle.record.specs.declared.ScheduleRefusal.{ScheduleRefusal}
 use Rattle.rules.specs.Papers.{Paper, no}
 use Rattle.counting.specs.Answers.{counted_paper}
-use Rattle.schedule.specs.Answers.{verdict_paper}
-use Rattle.counting.specs.declared.Counted.TheVariants as Co
-use Rattle.counting.specs.declared.Counted.{Counted}
-use Rattle.schedule.specs.declared.Verdict.TheVariants as Ve
-use Rattle.schedule.specs.declared.Verdict.{Verdict}
 use Rattle.scheduler.specs.Words.{CarriesWords, Words}
 use Rattle.lookup.proofs.Numbers.{numbered as store_numbered}
 use Rattle.lookup.specs.Refusals.{paper as store_paper}
 use Rattle.slots.specs.declared.StoreIdError.TheVariants.{InvalidPacketIdx, InvalidSubpool}
 use Rattle.slots.specs.declared.StoreRefusal.TheVariants.{BadBuffers, BadSetup, BufferTooSmall, DataDoesNotExist, DataTooLarge, InvalidStoreId, StateDamaged, StoreFull}
 use Rattle.slots.specs.declared.StoreRefusal.{StoreRefusal}
-use Rattle.tick.specs.declared.TickAnswer.TheVariants as T
-use Rattle.tick.specs.declared.TickAnswer.{TickAnswer}
 use Rattle.store_laws.proofs.Back.{back as store_back, there_and_back as store_there_and_back}
 use Rattle.time.specs.declared.Margin.{Margin}
 use Rattle.time.specs.declared.UnixTime.{UnixTime}
@@ -130,93 +113,86 @@ refusal_back : {A : Type 0} (answer : List ℕ → A) (refusal : ScheduleRefusal
 unfolding answer_of
 refusal_back answer refusal e w = rw (numbered e, there_and_back e w)
 
-pub done_of : List ℕ → Done
-done_of vs = D.Ok
+pub done_of : List ℕ → Result (Unit {0}) ScheduleRefusal
+done_of vs = (Ok tt)
 
-pub done_back : (a : Done) → CarriesWords D.Refused a → answer_of back done_of D.Refused (done_paper a) ≡ a
+pub done_back : (a : Result (Unit {0}) ScheduleRefusal) → CarriesWords Err a → answer_of back done_of Err (done_paper a) ≡ a
 unfolding answer_of done_of done_paper
-done_back D.Ok w = refl
-done_back (D.Refused e) w = refusal_back done_of D.Refused e (w e refl)
+done_back (Ok _) w = refl
+done_back (Err e) w = refusal_back done_of Err e (w e refl)
 
-pub verdict_of : List ℕ → Verdict
-verdict_of vs = Ve.Fine
+pub counted_of : List ℕ → Result ℕ ScheduleRefusal
+counted_of vs = Ok (get_or vs 0 0)
 
-pub verdict_back : (a : Verdict) → CarriesWords Ve.Refused a → answer_of back verdict_of Ve.Refused (verdict_paper a) ≡ a
-unfolding answer_of verdict_of verdict_paper
-verdict_back Ve.Fine w = refl
-verdict_back (Ve.Refused e) w = refusal_back verdict_of Ve.Refused e (w e refl)
-
-pub counted_of : List ℕ → Counted
-counted_of vs = Co.Count (get_or vs 0 0)
-
-pub counted_back : (a : Counted) → CarriesWords Co.Refused a → answer_of back counted_of Co.Refused (counted_paper a) ≡ a
+pub counted_back : (a : Result ℕ ScheduleRefusal) → CarriesWords Err a → answer_of back counted_of Err (counted_paper a) ≡ a
 unfolding answer_of counted_of counted_paper
-counted_back (Co.Count n) w = refl
-counted_back (Co.Refused e) w = refusal_back counted_of Co.Refused e (w e refl)
+counted_back (Ok n) w = refl
+counted_back (Err e) w = refusal_back counted_of Err e (w e refl)
 
-pub retrieved_of : List ℕ → Retrieved
-retrieved_of vs = R.Rows (record { first = get_or vs 0 0; number = get_or vs 1 0 })
+pub retrieved_of : List ℕ → Result Part ScheduleRefusal
+retrieved_of vs = Ok (record { first = get_or vs 0 0; number = get_or vs 1 0 })
 
-pub retrieved_back : (a : Retrieved) → CarriesWords R.Refused a → answer_of back retrieved_of R.Refused (retrieved_paper a) ≡ a
+pub retrieved_back : (a : Result Part ScheduleRefusal) → CarriesWords Err a → answer_of back retrieved_of Err (retrieved_paper a) ≡ a
 unfolding answer_of retrieved_of retrieved_paper
-retrieved_back (R.Rows x) w = refl
-retrieved_back (R.Refused e) w = refusal_back retrieved_of R.Refused e (w e refl)
+retrieved_back (Ok x) w = refl
+retrieved_back (Err e) w = refusal_back retrieved_of Err e (w e refl)
 
-pub inserted_of : List ℕ → InsertAnswer
-inserted_of vs = I.Inserted (record { addr = get_or vs 0 0; request_id = get_or vs 1 0 })
+pub inserted_of : List ℕ → Result TcInfo ScheduleRefusal
+inserted_of vs = Ok (record { addr = get_or vs 0 0; request_id = get_or vs 1 0 })
 
-pub inserted_back : (a : InsertAnswer) → CarriesWords I.Refused a → answer_of back inserted_of I.Refused (inserted_paper a) ≡ a
+pub inserted_back : (a : Result TcInfo ScheduleRefusal) → CarriesWords Err a → answer_of back inserted_of Err (inserted_paper a) ≡ a
 unfolding answer_of inserted_of inserted_paper
-inserted_back (I.Inserted x) w = refl
-inserted_back (I.Refused e) w = refusal_back inserted_of I.Refused e (w e refl)
+inserted_back (Ok x) w = refl
+inserted_back (Err e) w = refusal_back inserted_of Err e (w e refl)
 
-last_of : Paper → Last
-last_of p = cond (eqb p.number 0) La.None (La.Missing (store_back p))
+last_of : Paper → Option StoreRefusal
+last_of p = cond (eqb p.number 0) None (Some (store_back p))
 
-last_back : (a : Last) → last_of (last_paper a) ≡ a
+last_back : (a : Option StoreRefusal) → last_of (last_paper a) ≡ a
 unfolding last_of last_paper
-last_back La.None = refl
-last_back (La.Missing e) = rw (store_numbered e, store_there_and_back e)
+last_back None = refl
+last_back (Some e) = rw (store_numbered e, store_there_and_back e)
 
 tally_of : List ℕ → Tally
 tally_of vs = record { deleted = get_or vs 0 0; missing = get_or vs 1 0; last = last_of (no (get_or vs 2 0) (drop 3 vs)) }
 
-pub cleared_of : List ℕ → ClearAnswer
-cleared_of vs = Cl.Done (tally_of vs)
+pub cleared_of : List ℕ → Result Tally ScheduleRefusal
+cleared_of vs = Ok (tally_of vs)
 
-pub cleared_back : (a : ClearAnswer) → CarriesWords Cl.Refused a → answer_of back cleared_of Cl.Refused (cleared_paper a) ≡ a
+pub cleared_back : (a : Result Tally ScheduleRefusal) → CarriesWords Err a → answer_of back cleared_of Err (cleared_paper a) ≡ a
 unfolding answer_of cleared_of cleared_paper tally_of
-cleared_back (Cl.Done t) w = ap (λ (l : Last). Cl.Done (record { deleted = t.deleted; missing = t.missing; last = l })) (last_back t.last)
-cleared_back (Cl.Refused e) w = refusal_back cleared_of Cl.Refused e (w e refl)
+cleared_back (Ok t) w = ap (λ (l : Option StoreRefusal). Ok (record { deleted = t.deleted; missing = t.missing; last = l })) (last_back t.last)
+cleared_back (Err e) w = refusal_back cleared_of Err e (w e refl)
 
 -- by request ID: the first value says whether there was a match
-pub taken_of : List ℕ → TakeAnswer
-taken_of vs = cond (eqb (get_or vs 0 0) 0) Ta.NoMatch (Ta.Address (get_or vs 1 0))
+pub taken_of : List ℕ → Result (Option ℕ) ScheduleRefusal
+taken_of vs = cond (eqb (get_or vs 0 0) 0) (Ok None) (Ok (Some (get_or vs 1 0)))
 
-pub taken_back : (a : TakeAnswer) → CarriesWords Ta.Refused a → answer_of back taken_of Ta.Refused (taken_paper a) ≡ a
+pub taken_back : (a : Result (Option ℕ) ScheduleRefusal) → CarriesWords Err a → answer_of back taken_of Err (taken_paper a) ≡ a
 unfolding answer_of taken_of taken_paper
-taken_back Ta.NoMatch w = refl
-taken_back (Ta.Address a) w = refl
-taken_back (Ta.Refused e) w = refusal_back taken_of Ta.Refused e (w e refl)
+taken_back (Ok None) w = refl
+taken_back (Ok (Some a)) w = refl
+taken_back (Err e) w = refusal_back taken_of Err e (w e refl)
 
 -- and the second whether the packet was there
-match_of : List ℕ → FreeAnswer
-match_of vs = cond (eqb (get_or vs 1 0) 1) F.Deleted (F.Missing (store_back (no (get_or vs 2 0) (drop 3 vs))))
+match_of : List ℕ → Result (Option (Result (Unit {0}) StoreRefusal)) ScheduleRefusal
+match_of vs = cond (eqb (get_or vs 1 0) 1) (Ok (Some (Ok tt))) (Ok (Some (Err (store_back (no (get_or vs 2 0) (drop 3 vs))))))
 
-pub freed_of : List ℕ → FreeAnswer
-freed_of vs = cond (eqb (get_or vs 0 0) 0) F.NoMatch (match_of vs)
+pub freed_of : List ℕ → Result (Option (Result (Unit {0}) StoreRefusal)) ScheduleRefusal
+freed_of vs = cond (eqb (get_or vs 0 0) 0) (Ok None) (match_of vs)
 
-pub freed_back : (a : FreeAnswer) → CarriesWords F.Refused a → answer_of back freed_of F.Refused (freed_paper a) ≡ a
+pub freed_back : (a : Result (Option (Result (Unit {0}) StoreRefusal)) ScheduleRefusal) → CarriesWords Err a →
+    answer_of back freed_of Err (freed_paper a) ≡ a
 unfolding answer_of freed_of freed_paper match_of
-freed_back F.NoMatch w = refl
-freed_back F.Deleted w = refl
-freed_back (F.Missing e) w = ap F.Missing (store_there_and_back e)
-freed_back (F.Refused e) w = refusal_back freed_of F.Refused e (w e refl)
+freed_back (Ok None) w = refl
+freed_back (Ok (Some (Ok _))) w = refl
+freed_back (Ok (Some (Err e))) w = ap (λ (x : StoreRefusal). Ok (Some (Err x))) (store_there_and_back e)
+freed_back (Err e) w = refusal_back freed_of Err e (w e refl)
 
-pub ticked_of : List ℕ → TickAnswer
-ticked_of vs = T.HandedOut (record { m = get_or vs 0 0; remain = get_or vs 1 0 })
+pub ticked_of : List ℕ → Result Handed ScheduleRefusal
+ticked_of vs = Ok (record { m = get_or vs 0 0; remain = get_or vs 1 0 })
 
-pub ticked_back : (a : TickAnswer) → CarriesWords T.Refused a → answer_of back ticked_of T.Refused (tick_paper a) ≡ a
+pub ticked_back : (a : Result Handed ScheduleRefusal) → CarriesWords Err a → answer_of back ticked_of Err (tick_paper a) ≡ a
 unfolding answer_of ticked_of tick_paper
-ticked_back (T.HandedOut h) w = refl
-ticked_back (T.Refused e) w = refusal_back ticked_of T.Refused e (w e refl)
+ticked_back (Ok h) w = refl
+ticked_back (Err e) w = refusal_back ticked_of Err e (w e refl)

@@ -1,4 +1,7 @@
 -- What each call makes of a state that fits: a refusal, or a state that fits.
+use Rattle.std.specs.Prelude.{Option, Some, None, Result, Ok, Err}
+use Rattle.packet.specs.declared.Header.{Header}
+use Rattle.packet.specs.declared.Fault.{Fault}
 use Rattle.rules.proofs.Cases.{either}
 use Prim.Native.Nat.{◌<◌, ◌≤◌, suc, zero-le, ℕ}
 use Rattle.deletions.specs.Deleting.{clear_in, delete_window_in, reset_in}
@@ -12,8 +15,6 @@ use Rattle.storing.specs.Entered.{entered}
 use Rattle.gate.specs.Entering.{enter, insert_stored_in, timed}
 use Rattle.wrapped.specs.Wrapped.{insert_wrapped_in, opened, stamped}
 use Rattle.packet.specs.Packet.{id_of, id_word, read_of, user_data_of}
-use Rattle.packet.specs.declared.Reading.TheVariants.{Packet, Unreadable}
-use Rattle.packet.specs.declared.Reading.{Reading}
 use Rattle.record.specs.Record.{clock_in, mark_in, times_in_range, with_clock, with_mark}
 use Rattle.rules.proofs.All.{and_left, and_right}
 use Rattle.rules.specs.Papers.{Outcome, after, done, through, no, refused}
@@ -27,7 +28,6 @@ use Rattle.scheduler.specs.Fits.{Bytes, Fits, Gives}
 use Rattle.store_laws.specs.Fits.{PoolsFit}
 use Rattle.scheduler.specs.Steps.{of_pools, of_record}
 use Rattle.stamp.specs.Stamp.{Timely, stamp_of}
-use Rattle.stamp.specs.declared.Stamp.TheVariants.{At, Refused}
 use Rattle.stamp.specs.declared.Stamp.{Stamp}
 use Rattle.store.specs.Calls.{add_in, delete_in, modify_in}
 use Rattle.slots.specs.Pools.{Pool}
@@ -159,25 +159,25 @@ module _ (su : Setup) (s : State) (f : Fits su s) where
   entered_gives t id (refused p) r h = tt
   entered_gives t id (done vs ps) r h = enter_gives su (with_pools ps s) (with_pools_lem su s ps f h) t id _ _ r
 
-  activity_gives : (t : UnixTime) (tc : List ℕ) (x : Reading) → InRange t → Gives su (activity su t tc s x)
+  activity_gives : (t : UnixTime) (tc : List ℕ) (x : Result Header Fault) → InRange t → Gives su (activity su t tc s x)
   unfolding activity
-  activity_gives t tc (Unreadable y) r = tt
-  activity_gives t tc (Packet h) r =
+  activity_gives t tc (Err y) r = tt
+  activity_gives t tc (Ok h) r =
       unless_gives su _ _ _ tt (λ e. entered_gives t (id_word (id_of h)) _ r (add_fits su.store s.pools f.pools su.store.spill tc))
 
   pub unwrapped_gives : (t : UnixTime) (tc : List ℕ) → Gives su (insert_unwrapped_in su t tc s)
   unfolding insert_unwrapped_in
   unwrapped_gives t tc = timed_gives su t _ (λ r. activity_gives t tc (read_of 2 tc) r)
 
-  stamped_gives : (d : List ℕ) (x : Stamp) → Timely x → Gives su (stamped su d s x)
+  stamped_gives : (d : List ℕ) (x : Option Stamp) → Timely x → Gives su (stamped su d s x)
   unfolding stamped
-  stamped_gives d Refused r = tt
-  stamped_gives d (At t n) r = activity_gives t _ (read_of 2 _) r
+  stamped_gives d None r = tt
+  stamped_gives d (Some x) r = activity_gives x.time _ (read_of 2 _) r
 
-  opened_gives : (d : List ℕ) (x : Reading) → Bytes d → Gives su (opened su d s x)
+  opened_gives : (d : List ℕ) (x : Result Header Fault) → Bytes d → Gives su (opened su d s x)
   unfolding opened
-  opened_gives d (Unreadable y) b = tt
-  opened_gives d (Packet h) b =
+  opened_gives d (Err y) b = tt
+  opened_gives d (Ok h) b =
       unless_gives su _ _ _ tt (λ x. unless_gives su _ _ _ tt (λ y. unless_gives su _ _ _ tt (λ z. stamped_gives d (stamp_of d) (stamp_timely d b))))
 
   pub wrapped_gives : (p : List ℕ) → Bytes p → Gives su (insert_wrapped_in su p s)

@@ -1,6 +1,7 @@
 -- Repeated ticks as requests: with limit k at least 1, nothing between them and room for k records of the largest slot size, no tick is
 -- refused, and within d / k of them, rounded up, all d due entries are handed out.
 -- Whatever their number, the entries handed out are the first due ones, in schedule order, and no other.
+use Rattle.std.specs.Prelude.{None}
 use Prim.Native.Nat.{◌*◌, ◌+◌, ◌-◌, ◌≤◌, min, suc, zero, ℕ}
 use Rattle.handing.specs.Handing.{after_all}
 use Rattle.record.specs.declared.Record.{Record}
@@ -51,7 +52,7 @@ module _ (su : Setup) (big k : ℕ) (del : Bool) (some : 1 ≤ k) where
     room : 29 + big ≤ usable log
     room = let m : 1 * (21 + big) ≤ k * (21 + big) = mul-le-mul_right {m = 1} {n = k} (21 + big) some in omega (arith, ample)
 
-    none_lacks : (n : ℕ) → 0 ≡ lack n (usable log) s.entries s.pools
+    none_lacks : (n : ℕ) → None ≡ lack n (usable log) s.entries s.pools
     none_lacks zero = lack_none 0 (usable log) s.entries s.pools (omega arith)
     none_lacks (suc n) =
         lack_fits (suc n) (usable log) s.entries s.pools (first_total s.entries s.pools) (omega arith) refl
@@ -59,7 +60,7 @@ module _ (su : Setup) (big k : ℕ) (del : Bool) (some : 1 ≤ k) where
 
     goes : tick_in k del log s ≡ handed_out log s out
     unfolding out
-    goes = hands_out k del log s 0 (omega (arith, room)) (none_lacks (min (due (instant s.clock) s.entries) k)) (omega arith)
+    goes = hands_out k del log s (omega (arith, room)) (none_lacks (min (due (instant s.clock) s.entries) k))
 
     all_go : Splits (leave del) (always s.enabled) s.entries s.pools out (going s)
     unfolding out

@@ -1,4 +1,7 @@
 -- The numbers that each call gives of its own, beside 1 to 3 that are judged first: from 4 to 20.
+use Rattle.std.specs.Prelude.{Option, Some, None, Result, Ok, Err}
+use Rattle.packet.specs.declared.Header.{Header}
+use Rattle.packet.specs.declared.Fault.{Fault}
 use Rattle.rules.proofs.Cases.{clash}
 use Prim.Native.Nat.{◌≤◌, ℕ}
 use Rattle.deletions.specs.Deleting.{clear_in, delete_window_in, reset_in}
@@ -10,8 +13,6 @@ use Rattle.storing.specs.Entered.{entered}
 use Rattle.gate.specs.Entering.{enter, insert_stored_in, timed}
 use Rattle.wrapped.specs.Wrapped.{insert_wrapped_in, opened, stamped}
 use Rattle.packet.specs.Packet.{read_of, user_data_of}
-use Rattle.packet.specs.declared.Reading.TheVariants.{Packet, Unreadable}
-use Rattle.packet.specs.declared.Reading.{Reading}
 use Rattle.record.specs.Record.{clock_in, mark_in, times_in_range}
 use Rattle.record.specs.declared.Record.{Record}
 use Rattle.rules.proofs.Order.{through_says}
@@ -21,7 +22,6 @@ use Rattle.counting.specs.Counting.{count_in}
 use Rattle.schedule.specs.State.{State, with_pools}
 use Rattle.schedule.specs.declared.Setup.{Setup}
 use Rattle.stamp.specs.Stamp.{stamp_of}
-use Rattle.stamp.specs.declared.Stamp.TheVariants.{At, Refused}
 use Rattle.stamp.specs.declared.Stamp.{Stamp}
 use Rattle.store.specs.Calls.{add_in, delete_in, modify_in, place}
 use Rattle.lookup.specs.Calls.{if_held, if_named}
@@ -133,21 +133,21 @@ module _ (su : Setup) where
   own_entered t id s (refused p) h = h
   own_entered t id s (done vs ps) h = own_enter t id _ _ (with_pools ps s)
 
-  own_activity : (t : UnixTime) (tc : List ℕ) (s : State) (x : Reading) → Own (activity su t tc s x)
+  own_activity : (t : UnixTime) (tc : List ℕ) (s : State) (x : Result Header Fault) → Own (activity su t tc s x)
   unfolding activity
-  own_activity t tc s (Unreadable f) = (omega arith, omega arith)
-  own_activity t tc s (Packet h) =
+  own_activity t tc s (Err f) = (omega arith, omega arith)
+  own_activity t tc s (Ok h) =
       own_unless _ _ _ (omega arith, omega arith) (own_entered t _ s (add_in su.store.spill s.pools tc) (own_add _ s.pools tc))
 
-  own_stamped : (d : List ℕ) (s : State) (x : Stamp) → Own (stamped su d s x)
+  own_stamped : (d : List ℕ) (s : State) (x : Option Stamp) → Own (stamped su d s x)
   unfolding stamped
-  own_stamped d s Refused = (omega arith, omega arith)
-  own_stamped d s (At t n) = own_activity t (drop n d) s (read_of 2 (drop n d))
+  own_stamped d s None = (omega arith, omega arith)
+  own_stamped d s (Some x) = own_activity x.time (drop x.len d) s (read_of 2 (drop x.len d))
 
-  own_opened : (d : List ℕ) (s : State) (x : Reading) → Own (opened su d s x)
+  own_opened : (d : List ℕ) (s : State) (x : Result Header Fault) → Own (opened su d s x)
   unfolding opened
-  own_opened d s (Unreadable f) = (omega arith, omega arith)
-  own_opened d s (Packet h) =
+  own_opened d s (Err f) = (omega arith, omega arith)
+  own_opened d s (Ok h) =
       own_unless _ _ _ (omega arith, omega arith)
       (own_unless _ _ _ (omega arith, omega arith) (own_unless _ _ _ (omega arith, omega arith) (own_stamped d s (stamp_of d))))
 

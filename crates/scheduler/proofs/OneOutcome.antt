@@ -1,30 +1,21 @@
 -- A promise allows one outcome only: one answer, one record, and one content of every lent list.
+use Rattle.std.specs.Prelude.{Result, Err}
 use Prim.Native.Nat.{ℕ}
 use Rattle.deletions.specs.Answers.{cleared_paper}
 use Rattle.by_id.specs.Answers.{freed_paper, taken_paper}
 use Rattle.record.specs.declared.ScheduleRefusal.{ScheduleRefusal}
 use Rattle.windows.specs.Answers.{retrieved_paper}
-use Rattle.deletions.specs.declared.ClearAnswer.TheVariants as Cl
-use Rattle.by_id.specs.declared.FreeAnswer.TheVariants as F
-use Rattle.windows.specs.declared.Retrieved.TheVariants as R
-use Rattle.by_id.specs.declared.TakeAnswer.TheVariants as Ta
 use Rattle.storing.specs.Answers.{inserted_paper}
-use Rattle.storing.specs.declared.InsertAnswer.TheVariants as I
 use Rattle.record.specs.Refusals.{done_paper}
-use Rattle.record.specs.declared.Done.TheVariants as D
-use Rattle.record.specs.declared.Done.{Done}
 use Rattle.record.specs.declared.Record.{Record}
 use Rattle.rules.specs.Papers.{Outcome, Paper, after, says}
 use Rattle.schedule.proofs.Promises.{writes}
 use Rattle.counting.specs.Answers.{counted_paper}
-use Rattle.schedule.specs.Answers.{verdict_paper}
 use Rattle.schedule.specs.Judge.{Sound, judging}
 use Rattle.schedule.specs.Promise.{Does, WritesOver}
 use Rattle.schedule.specs.State.{State}
-use Rattle.counting.specs.declared.Counted.TheVariants as Co
 use Rattle.schedule.specs.declared.Setup.{Setup}
-use Rattle.schedule.specs.declared.Verdict.TheVariants as Ve
-use Rattle.scheduler.proofs.OneToOne.{one_cleared, one_counted, one_done, one_freed, one_inserted, one_retrieved, one_taken, one_verdict}
+use Rattle.scheduler.proofs.OneToOne.{one_cleared, one_counted, one_done, one_freed, one_inserted, one_retrieved, one_taken}
 use Rattle.scheduler.specs.Laws.{Same}
 use Rattle.scheduler.specs.OneOutcome.{OneAnswer, OneSaid, OneToOne}
 use Rattle.scheduler.specs.Words.{CarriesWords}
@@ -59,36 +50,36 @@ by_answer told refusal one su r st le ro k o r₁ r₂ st₁ le₁ ro₁ st₂ l
     let e = one_outcome su r st le ro (told a) (told b) r₁ r₂ st₁ le₁ ro₁ st₂ le₂ ro₂ o w v in (one a b i j e.0, e.1)
 
 -- a stored insertion, and the fresh start
-pub one_stored : OneAnswer done_paper D.Refused
-one_stored = by_answer done_paper D.Refused one_done
+pub one_stored : OneAnswer done_paper Err
+one_stored = by_answer done_paper Err one_done
 
 -- the other insertions
-pub one_insert : OneAnswer inserted_paper I.Refused
-one_insert = by_answer inserted_paper I.Refused one_inserted
+pub one_insert : OneAnswer inserted_paper Err
+one_insert = by_answer inserted_paper Err one_inserted
 
 -- window deletion and `reset`
-pub one_clear : OneAnswer cleared_paper Cl.Refused
-one_clear = by_answer cleared_paper Cl.Refused one_cleared
+pub one_clear : OneAnswer cleared_paper Err
+one_clear = by_answer cleared_paper Err one_cleared
 
 -- the deletions by request ID
-pub one_take : OneAnswer taken_paper Ta.Refused
-one_take = by_answer taken_paper Ta.Refused one_taken
+pub one_take : OneAnswer taken_paper Err
+one_take = by_answer taken_paper Err one_taken
 
-pub one_free : OneAnswer freed_paper F.Refused
-one_free = by_answer freed_paper F.Refused one_freed
+pub one_free : OneAnswer freed_paper Err
+one_free = by_answer freed_paper Err one_freed
 
 -- the calls that only look: count, retrieval, judging
 module _ {A : Type 0} (o : Outcome A) where
-  pub one_count : OneSaid o counted_paper Co.Refused
+  pub one_count : OneSaid o counted_paper Err
   one_count a b i j w v = one_counted a b i j (w ∙ sym v)
 
-  pub one_retrieval : OneSaid o retrieved_paper R.Refused
+  pub one_retrieval : OneSaid o retrieved_paper Err
   one_retrieval a b i j w v = one_retrieved a b i j (w ∙ sym v)
 
-  pub one_judge : OneSaid o verdict_paper Ve.Refused
-  one_judge a b i j w v = one_verdict a b i j (w ∙ sym v)
+  pub one_judge : OneSaid o done_paper Err
+  one_judge a b i j w v = one_done a b i j (w ∙ sym v)
 
 -- setting the clock, enable, disable, in place or by value
-pub one_change : (o : Outcome Record) (r r₁ r₂ : Record) (a b : Done) → CarriesWords D.Refused a → CarriesWords D.Refused b
+pub one_change : (o : Outcome Record) (r r₁ r₂ : Record) (a b : Result (Unit {0}) ScheduleRefusal) → CarriesWords Err a → CarriesWords Err b
     → done_paper a ≡ says o → r₁ ≡ after o r (λ x. x) → done_paper b ≡ says o → r₂ ≡ after o r (λ x. x) → (a ≡ b) × (r₁ ≡ r₂)
 one_change o r r₁ r₂ a b i j w m v n = (one_done a b i j (w ∙ sym v), m ∙ sym n)

@@ -1,5 +1,8 @@
 -- The laws of the scheduler for the tick: it keeps a fitting state so, does what the step of its request says, keeps everything where
 -- it refuses, and has one outcome only.
+use Rattle.std.specs.Prelude.{Result, Err}
+use Rattle.record.specs.declared.ScheduleRefusal.{ScheduleRefusal}
+use Rattle.tick.specs.declared.Handed.{Handed}
 use Rattle.rules.proofs.Cases.{either}
 use Prim.Native.Nat.{ℕ}
 use Rattle.record.specs.declared.Record.{Record}
@@ -25,10 +28,8 @@ use Rattle.slots.specs.Pools.{Pool}
 use Rattle.layout.specs.declared.Setup.{Setup as StoreSetup}
 use Rattle.rows.proofs.Order.{drop_ordered}
 use Rattle.rows.specs.Entries.{Entry}
-use Rattle.tick.specs.declared.TickAnswer.TheVariants as T
 use Rattle.tick.specs.Promise.{Ticks, left, tick_paper}
 use Rattle.tick.specs.Tick.{Logged, handed_out, tick_in, usable}
-use Rattle.tick.specs.declared.TickAnswer.{TickAnswer}
 use Rattle.time.specs.Time.{instant}
 use Rattle.store_laws.proofs.Wiped.{deleted_is}
 use Rattle.handing.specs.Handing.{after_all}
@@ -114,8 +115,8 @@ module _ (su : Setup) (r : Record) (st le ro lo : List ℕ) (limit : ℕ) (del :
       (s.0, s.1, w.log ∙ sym v.log)
 
 -- and by the answers themselves
-pub one_tick_answer : (su : Setup) (r : Record) (st le ro lo : List ℕ) (limit : ℕ) (del : Bool) (a b : TickAnswer)
-    → CarriesWords T.Refused a → CarriesWords T.Refused b → (r₁ r₂ : Record) (st₁ le₁ ro₁ lo₁ st₂ le₂ ro₂ lo₂ : List ℕ)
+pub one_tick_answer : (su : Setup) (r : Record) (st le ro lo : List ℕ) (limit : ℕ) (del : Bool) (a b : Result Handed ScheduleRefusal)
+    → CarriesWords Err a → CarriesWords Err b → (r₁ r₂ : Record) (st₁ le₁ ro₁ lo₁ st₂ le₂ ro₂ lo₂ : List ℕ)
     → Ticks su r st le ro lo (judging su r st le ro (tick_in limit del lo)) (tick_paper a) r₁ st₁ le₁ ro₁ lo₁
     → Ticks su r st le ro lo (judging su r st le ro (tick_in limit del lo)) (tick_paper b) r₂ st₂ le₂ ro₂ lo₂
     → (a ≡ b) × Same r₂ r₁ st₂ st₁ le₂ le₁ ro₂ ro₁ × (lo₁ ≡ lo₂)

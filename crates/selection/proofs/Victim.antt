@@ -1,16 +1,19 @@
 -- What the victim is: it has the ID, no entry with the ID is earlier, and of those at its time it is the last.
 use Prim.Native.Nat.{◌+◌, ◌-◌, ◌<◌, ◌≤◌, suc, zero, ℕ}
-use Rattle.rows.proofs.Order.{ordered_pair}
-use Rattle.rows.specs.Entries.{Entry, time}
+use Rattle.rows.proofs.Order.{InRange, ordered_at, ordered_pair}
+use Rattle.std.specs.Prelude.{MatchOption}
+use Rattle.std.proofs.Common.{Option, Some, None}
+use Rattle.rows.specs.Entries.{Entry, entries, entry, nth, time}
 use Rattle.rows.specs.Order.{ordered}
-use Rattle.rules.proofs.Cases.{eq_or_ne, true_or_false}
-use Rattle.selection.proofs.Matches.{first_found, first_hit, first_miss, last_step, match_facts, match_true}
+use Rattle.rules.proofs.Cases.{eq_or_ne, le_or_lt, true_or_false}
+use Rattle.selection.proofs.Matches.{first_found, first_hit, first_miss, last_step, match_facts, match_true, Matched}
+use Rattle.selection.specs.Inside.{Bears}
 use Rattle.selection.specs.Match.{first_match, is_match, last_match, none, victim}
-use lib.ListN.{get_or, length}
+use lib.ListN.{get_or, get_or-map, length, length-map}
 use mathlib.Core.Bool.{false, true}
 use mathlib.Core.List.{List, [], ◌∷◌}
 use mathlib.Core.Logic.{◌⊎◌, inl, inr, ⊎_elim}
-use mathlib.Core.Path.{◌∙◌, ◌≡◌, refl}
+use mathlib.Core.Path.{◌∙◌, ◌≡◌, ap, refl}
 use native.Mathlib.Nat.{le_of_suc-le-suc, not-suc-le-zero, sub-zero}
 use native.Mathlib.Omega.{arith}
 
@@ -138,3 +141,70 @@ no_victim id es h j l m =
     let q = first_le id es j l m in
     let g = first_found id es none (omega arith) in
     omega (arith, victim_found id es (first_match id es) (omega arith) (match_true id (first_time id es) (get_or es (first_match id es) none) g refl))
+
+-- ---- the search: the first row with the ID, and from the end on the first with its ID and time
+
+module _ (id : ℕ) (t : List (List ℕ)) where
+  at : (k : ℕ) → get_or (entries t) k none ≡ nth t k
+  at k = get_or-map entry t k []
+
+  -- what stands at the victim's place
+  found_at : Later id (first_time id (entries t)) 0 (victim id (entries t)) (entries t)
+      → Matched id (first_time id (entries t)) (nth t (victim id (entries t)))
+  found_at m = rw (at (victim id (entries t))) at (match_facts id (first_time id (entries t)) _ (rw sub-zero at m.alike))
+
+  pub victim_of_none : ((k : ℕ) → k < length t → (nth t k).id ≡ id → ⊥) → victim id (entries t) ≡ length t
+  victim_of_none h =
+      let n = length-map t entry in
+      ⊎_elim
+      (λ (m : victim id (entries t) ≡ length (entries t)). omega arith)
+      (λ (m : Later id (first_time id (entries t)) 0 (victim id (entries t)) (entries t)).
+      absurd (h (victim id (entries t)) (omega (arith, m.to)) (found_at m).same))
+      (victim_in id (entries t))
+
+  -- row p is the first with the ID
+  module _ (o : ordered (entries t) ≡ true) (p : ℕ) (l : p < length t) (has : (nth t p).id ≡ id)
+      (before : (k : ℕ) → k < p → (nth t k).id ≡ id → ⊥) where
+    abbrev Same : ℕ → Type 0
+    Same k = Bears t k (nth t p).secs (nth t p).nanos id
+
+    first_is : first_match id (entries t) ≡ p
+    first_is =
+        let n = length-map t entry in
+        let m = first_le id (entries t) p (omega arith) (rw at has) in
+        let f = rw (at (first_match id (entries t))) at (first_found id (entries t) none (omega arith)) in
+        ⊎_elim (λ (x : p ≤ first_match id (entries t)). omega arith) (λ (x : first_match id (entries t) < p). absurd (before _ x f))
+        (le_or_lt p (first_match id (entries t)))
+
+    first_time_is : first_time id (entries t) ≡ time (nth t p)
+    first_time_is = ap (λ (k : ℕ). time (get_or (entries t) k none)) first_is ∙ ap time (at p)
+
+    range : (k : ℕ) → k < length t → InRange (nth t k)
+    range k h = let n = length-map t entry in rw (at k) at (ordered_at 0 (entries t) k none o (omega arith)).range
+
+    pub victim_of_some : (r : Option ℕ)
+        → MatchOption r ((k : ℕ) → k < length t → Same k → ⊥)
+        (λ i. (i < length t) × Same i × ((k : ℕ) → i < k → k < length t → Same k → ⊥))
+        → MatchOption r (victim id (entries t) ≡ length t) (λ i. (i < length t) × (i ≡ victim id (entries t)))
+    victim_of_some None h = absurd (h p l (refl, refl, has))
+    victim_of_some (Some i) h =
+        let n = length-map t entry in
+        let v = victim id (entries t) in
+        let x : time (get_or (entries t) i none) ≡ first_time id (entries t) = rw (at i, first_time_is) (omega (arith, h.1)) in
+        let m = match_true id (first_time id (entries t)) (get_or (entries t) i none) (rw (at i) h.1.2) x in
+        let up = victim_upper id (entries t) i (omega (arith, h.0)) m in
+        let to = victim_found id (entries t) i (omega (arith, h.0)) m in (
+          h.0,
+          ⊎_elim (λ (y : v ≤ i). omega arith)
+              (λ (y : i < v).
+              ⊎_elim
+              (λ (z : v ≡ length (entries t)). absurd (omega arith))
+              (λ (z : Later id (first_time id (entries t)) 0 v (entries t)).
+              let f = found_at z in
+              let a = f.then in
+              let b = range v (omega arith) in
+              let c = range p l in
+              absurd (h.2 v y (omega arith) (omega (arith, first_time_is), omega (arith, first_time_is), f.same)))
+              (victim_in id (entries t)))
+              (le_or_lt v i),
+        )

@@ -1,8 +1,7 @@
--- What a search by window asks of its ends, and matches of an entry's own ID and time.
+-- What a search by window asks of its ends, and what a row bears.
 -- A reader need not believe this file: contracts below the public calls cite it, no public call's promise does.
-use Rattle.std.specs.Prelude.{ℕ, Bool, List}
-use Rattle.rows.specs.Entries.{Entry, time}
-use Rattle.selection.specs.Match.{is_match, last_match}
+use Rattle.std.specs.Prelude.{ℕ, List, ◌≡◌}
+use Rattle.rows.specs.Entries.{nth}
 use Rattle.selection.specs.declared.MomentWindow.{MomentWindow}
 use Rattle.selection.specs.declared.MomentWindow.TheVariants.{All, From, FromTo, To}
 use Rattle.time.specs.Time.{MomentInRange}
@@ -14,9 +13,6 @@ EndsInRange (FromTo f t) = MomentInRange f × MomentInRange t
 EndsInRange (From f) = MomentInRange f
 EndsInRange (To t) = MomentInRange t
 
--- matches of an entry's own ID and time
-abbrev pub like : Entry → Entry → Bool
-like e x = is_match e.id (time e) x
-
-abbrev pub last_like : Entry → ℕ → ℕ → List Entry → ℕ
-last_like e k b es = last_match e.id (time e) k b es
+-- row k bears a time and an ID
+abbrev pub Bears : List (List ℕ) → ℕ → ℕ → ℕ → ℕ → Type 0
+Bears t k secs nanos id = ((nth t k).secs ≡ secs) × ((nth t k).nanos ≡ nanos) × ((nth t k).id ≡ id)

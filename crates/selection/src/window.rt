@@ -35,10 +35,8 @@ fn start(rows: &[u64], count: usize, w: MomentWindow) -> usize
     ensures { result ≡ start_of w (unpack count rows.now) }
 {
     match w {
-        MomentWindow::All => 0,
-        MomentWindow::FromTo(f, _) => below(rows, count, f),
-        MomentWindow::From(f) => below(rows, count, f),
-        MomentWindow::To(_) => 0,
+        MomentWindow::FromTo(f, _) | MomentWindow::From(f) => below(rows, count, f),
+        MomentWindow::All | MomentWindow::To(_) => 0,
     }
 }
 
@@ -49,9 +47,7 @@ fn end(rows: &[u64], count: usize, w: MomentWindow) -> usize
     ensures { result ≡ end_of w (unpack count rows.now) }
 {
     match w {
-        MomentWindow::All => count,
-        MomentWindow::FromTo(_, t) => up_to(rows, count, t),
-        MomentWindow::From(_) => count,
-        MomentWindow::To(t) => up_to(rows, count, t),
+        MomentWindow::FromTo(_, t) | MomentWindow::To(t) => up_to(rows, count, t),
+        MomentWindow::All | MomentWindow::From(_) => count,
     }
 }

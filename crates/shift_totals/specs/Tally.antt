@@ -1,8 +1,7 @@
 -- The totals of a shift: each record of a release log counts once, by its flag (document 01, "The release tick and its log").
-use Rattle.std.specs.Prelude.{◌+◌, suc, zero, ℕ, eqb, ltb, cond, List}
+use Rattle.std.specs.Prelude.{Option, Some, None, ◌+◌, suc, zero, ℕ, eqb, ltb, cond, List}
+use Rattle.log_reader.specs.declared.Item.{Item}
 use Rattle.log_reader.specs.Finding.{counted, found_in}
-use Rattle.log_reader.specs.declared.Found.{Found}
-use Rattle.log_reader.specs.declared.Found.TheVariants.{Outside, Record}
 use Rattle.shift_totals.specs.declared.Totals.{Totals}
 
 -- one more; a total stops at the largest number there is
@@ -10,7 +9,7 @@ unfoldable pub more : ℕ → ℕ
 more n = cond (ltb n 18446744073709551615) (n + 1) n
 
 -- flag 1: released, and behind a missing packet if there was one before
-unfoldable pub with_released : Totals → Totals
+abbrev pub with_released : Totals → Totals
 with_released t =
     record {
       released = more t.released;
@@ -20,19 +19,19 @@ with_released t =
     }
 
 -- flag 0: due while disabled
-unfoldable pub with_discarded : Totals → Totals
+abbrev pub with_discarded : Totals → Totals
 with_discarded t = record { released = t.released; discarded = more t.discarded; missing = t.missing; behind = t.behind }
 
 -- flag 2: the packet is missing
-unfoldable pub with_missing : Totals → Totals
+abbrev pub with_missing : Totals → Totals
 with_missing t = record { released = t.released; discarded = t.discarded; missing = more t.missing; behind = t.behind }
 
 unfoldable pub tally : ℕ → Totals → Totals
 tally flag t = cond (eqb flag 1) (with_released t) (cond (eqb flag 0) (with_discarded t) (with_missing t))
 
-unfoldable pub tally_found : Found → Totals → Totals
-tally_found (Record it) t = tally it.flag t
-tally_found Outside t = t
+unfoldable pub tally_found : Option Item → Totals → Totals
+tally_found (Some it) t = tally it.flag t
+tally_found None t = t
 
 -- n records of a log from record i on
 unfoldable pub tally_from : List ℕ → ℕ → ℕ → Totals → Totals

@@ -1,52 +1,51 @@
 // Answers of the store as words: document 01's number, the name, the values.
 use crate::refusals;
-use lookup::{Length, Presence};
-use store::{Added, Deleted, Started, Verdict};
+use slots::StoreRefusal;
 use text::out;
 
-pub fn verdict(rt: &impl Print, a: Verdict) {
+pub fn verdict(rt: &impl Print, a: Result<(), StoreRefusal>) {
     match a {
-        Verdict::Fine => out::say(rt, b"0 Fine"),
-        Verdict::Refused(e) => refusals::of_store(rt, e),
+        Ok(()) => out::say(rt, b"0 Fine"),
+        Err(e) => refusals::of_store(rt, e),
     }
 }
 
-pub fn started(rt: &impl Print, a: Started) {
+pub fn started(rt: &impl Print, a: Result<(), StoreRefusal>) {
     match a {
-        Started::Done => out::say(rt, b"0 Done"),
-        Started::Refused(e) => refusals::of_store(rt, e),
+        Ok(()) => out::say(rt, b"0 Done"),
+        Err(e) => refusals::of_store(rt, e),
     }
 }
 
 // The address of what was added.
-pub fn added(rt: &impl Print, a: Added) {
+pub fn added(rt: &impl Print, a: Result<u64, StoreRefusal>) {
     match a {
-        Added::At(addr) => out::number(rt, b"0 At ", addr),
-        Added::Refused(e) => refusals::of_store(rt, e),
+        Ok(addr) => out::number(rt, b"0 At ", addr),
+        Err(e) => refusals::of_store(rt, e),
     }
 }
 
-pub fn length(rt: &impl Print, a: Length) {
+pub fn length(rt: &impl Print, a: Result<usize, StoreRefusal>) {
     match a {
-        Length::Of(n) => out::number(rt, b"0 Of ", n as u64),
-        Length::Refused(e) => refusals::of_store(rt, e),
+        Ok(n) => out::number(rt, b"0 Of ", n as u64),
+        Err(e) => refusals::of_store(rt, e),
     }
 }
 
-pub fn presence(rt: &impl Print, a: Presence) {
+pub fn presence(rt: &impl Print, a: Result<bool, StoreRefusal>) {
     match a {
-        Presence::Is(b) => if b {
+        Ok(b) => if b {
             out::say(rt, b"0 Is 1")
         } else {
             out::say(rt, b"0 Is 0")
         },
-        Presence::Refused(e) => refusals::of_store(rt, e),
+        Err(e) => refusals::of_store(rt, e),
     }
 }
 
-pub fn deleted(rt: &impl Print, a: Deleted) {
+pub fn deleted(rt: &impl Print, a: Result<(), StoreRefusal>) {
     match a {
-        Deleted::Done => out::say(rt, b"0 Done"),
-        Deleted::Refused(e) => refusals::of_store(rt, e),
+        Ok(()) => out::say(rt, b"0 Done"),
+        Err(e) => refusals::of_store(rt, e),
     }
 }

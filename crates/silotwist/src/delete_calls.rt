@@ -36,14 +36,13 @@ pub extern "C" fn silotwist_delete_window(
     if record.len() < 6 {
         return schedule_answers::short(answer, su);
     }
-    let r = face_reading::record(record);
+    let mut r = face_reading::record(record);
     let from = face_reading::time(from_secs, from_nanos);
     let to = face_reading::time(to_secs, to_nanos);
     let v = face_reading::window(has_from, from, has_to, to);
-    let c = deletions_public::delete_by_time_filter(su, r, store, lens, rows, v);
-    let a = c.answer;
+    let a = deletions_public::delete_by_time_filter(su, &mut r, store, lens, rows, v);
     let w = schedule_answers::cleared(a);
-    telling::with_count(record, c.next.count, answer, w)
+    telling::with_count(record, r.count, answer, w)
 }
 
 #[unsafe(no_mangle)]
@@ -70,11 +69,10 @@ pub extern "C" fn silotwist_delete_by_id_keep(
     if record.len() < 6 {
         return schedule_answers::short(answer, su);
     }
-    let r = face_reading::record(record);
-    let c = by_id_public::delete_by_request_id(su, r, store, lens, rows, request_id);
-    let a = c.answer;
+    let mut r = face_reading::record(record);
+    let a = by_id_public::delete_by_request_id(su, &mut r, store, lens, rows, request_id);
     let w = schedule_answers::taken(a);
-    telling::with_count(record, c.next.count, answer, w)
+    telling::with_count(record, r.count, answer, w)
 }
 
 #[unsafe(no_mangle)]
@@ -101,9 +99,10 @@ pub extern "C" fn silotwist_delete_by_id(
     if record.len() < 6 {
         return schedule_answers::short(answer, su);
     }
-    let r = face_reading::record(record);
-    let c = by_id_public::delete_by_request_id_and_from_pool(su, r, store, lens, rows, request_id);
-    let a = c.answer;
+    let mut r = face_reading::record(record);
+    let a = by_id_public::delete_by_request_id_and_from_pool(
+        su, &mut r, store, lens, rows, request_id,
+    );
     let w = schedule_answers::freed(a);
-    telling::with_count(record, c.next.count, answer, w)
+    telling::with_count(record, r.count, answer, w)
 }

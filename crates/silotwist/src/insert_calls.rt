@@ -31,11 +31,10 @@ pub extern "C" fn silotwist_insert_wrapped(
     if record.len() < 6 {
         return schedule_answers::short(answer, su);
     }
-    let r = face_reading::record(record);
-    let c = insertions_public::insert_wrapped_tc(su, r, store, lens, rows, packet);
-    let a = c.answer;
+    let mut r = face_reading::record(record);
+    let a = insertions_public::insert_wrapped_tc(su, &mut r, store, lens, rows, packet);
     let w = schedule_answers::inserted(a);
-    telling::with_count(record, c.next.count, answer, w)
+    telling::with_count(record, r.count, answer, w)
 }
 
 #[unsafe(no_mangle)]
@@ -64,12 +63,11 @@ pub extern "C" fn silotwist_insert_unwrapped(
     if record.len() < 6 {
         return schedule_answers::short(answer, su);
     }
-    let r = face_reading::record(record);
+    let mut r = face_reading::record(record);
     let t = face_reading::time(secs, nanos);
-    let c = insertions_public::insert_unwrapped_tc(su, r, store, lens, rows, t, packet);
-    let a = c.answer;
+    let a = insertions_public::insert_unwrapped_tc(su, &mut r, store, lens, rows, t, packet);
     let w = schedule_answers::inserted(a);
-    telling::with_count(record, c.next.count, answer, w)
+    telling::with_count(record, r.count, answer, w)
 }
 
 #[unsafe(no_mangle)]
@@ -99,12 +97,11 @@ pub extern "C" fn silotwist_insert_stored(
     if record.len() < 6 {
         return schedule_answers::short(answer, su);
     }
-    let r = face_reading::record(record);
+    let mut r = face_reading::record(record);
     let t = face_reading::time(secs, nanos);
-    let c = insertions_public::insert_unwrapped_and_stored_tc(
-        su, r, store, lens, rows, t, request_id, address,
+    let a = insertions_public::insert_unwrapped_and_stored_tc(
+        su, &mut r, store, lens, rows, t, request_id, address,
     );
-    let a = c.answer;
     let w = schedule_answers::done(a);
-    telling::with_count(record, c.next.count, answer, w)
+    telling::with_count(record, r.count, answer, w)
 }

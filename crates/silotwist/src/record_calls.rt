@@ -1,9 +1,11 @@
 // The calls that see the record alone.
 ghost use Rattle.std.specs.Prelude.{false, true};
-ghost use Rattle.record.specs.Record.{clock_in, mark_in};
+ghost use Rattle.record.specs.Record.{Changes, clock_in, mark_in};
+ghost use Rattle.record.specs.Refusals.{done_paper};
 ghost use Rattle.face.specs.RecordFace.{RecordFaces, clock_written, mark_written, record_call};
 
 use face_words::telling;
+use record::{Record, ScheduleRefusal};
 use time::UnixTime;
 
 #[unsafe(no_mangle)]
@@ -24,15 +26,21 @@ pub extern "C" fn silotwist_set_clock(
     if record.len() < 6 {
         return telling::put(answer, face_words::none(2));
     }
-    let t = UnixTime {
-        secs: secs,
-        nanos: nanos,
-    };
-    let r = face_reading::record(record);
-    let c = r.clocked(t);
-    let a = c.answer;
+    let t = UnixTime { secs, nanos };
+    let mut r = face_reading::record(record);
+    let a = record::set_clock(&mut r, t);
     let w = schedule_answers::done(a);
     telling::with_clock(record, t, answer, w)
+}
+
+fn set_mark(r: &mut Record, on: bool) -> Result<(), ScheduleRefusal>
+    ensures { Changes (mark_in on r.old) r.old (done_paper result) r.new }
+{
+    if on {
+        record::enable(r)
+    } else {
+        record::disable(r)
+    }
 }
 
 fn mark(record: &mut [u64], on: bool, answer: &mut [u64]) -> u32
@@ -47,9 +55,8 @@ fn mark(record: &mut [u64], on: bool, answer: &mut [u64]) -> u32
     if record.len() < 6 {
         return telling::put(answer, face_words::none(2));
     }
-    let r = face_reading::record(record);
-    let c = r.marked(on);
-    let a = c.answer;
+    let mut r = face_reading::record(record);
+    let a = set_mark(&mut r, on);
     let w = schedule_answers::done(a);
     telling::with_mark(record, on, answer, w)
 }

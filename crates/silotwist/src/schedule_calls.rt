@@ -98,11 +98,10 @@ pub extern "C" fn silotwist_reset(
     if record.len() < 6 {
         return schedule_answers::short(answer, su);
     }
-    let r = face_reading::record(record);
-    let c = deletions_public::reset(su, r, store, lens, rows);
-    let a = c.answer;
+    let mut r = face_reading::record(record);
+    let a = deletions_public::reset(su, &mut r, store, lens, rows);
     let w = schedule_answers::cleared(a);
-    telling::with_reset(record, c.next.count, answer, w)
+    telling::with_reset(record, r.count, answer, w)
 }
 
 #[unsafe(no_mangle)]
@@ -133,14 +132,13 @@ pub extern "C" fn silotwist_fresh(
     if record.len() < 6 {
         return schedule_answers::short(answer, su);
     }
-    let r = face_reading::record(record);
+    let mut r = face_reading::record(record);
     let t = face_reading::time(clock_secs, clock_nanos);
     let m = Margin {
         secs: margin_secs,
         nanos: margin_nanos,
     };
-    let c = starting::fresh_start(su, r, store, lens, rows, t, m);
-    let a = c.answer;
+    let a = starting::fresh_start(su, &mut r, store, lens, rows, t, m);
     let w = schedule_answers::done(a);
-    telling::with_all(record, c.next, answer, w)
+    telling::with_all(record, r, answer, w)
 }

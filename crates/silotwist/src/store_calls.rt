@@ -11,8 +11,6 @@ ghost use Rattle.face.specs.StoreFace.{BufferFaces, StoreFaces, part_in, store_c
 
 use face_words::{Words, telling};
 use layout::Setup;
-use lookup::Whereabouts;
-use store::Verdict;
 
 #[unsafe(no_mangle)]
 pub extern "C" fn silotwist_store_add(
@@ -104,20 +102,12 @@ pub extern "C" fn silotwist_store_part(
 fn part(setup: Setup, store: &[u8], lens: &[u16], address: u64) -> Words
     ensures { result ≡ words_of (says (judging setup store.now lens.now (part_in address setup))) }
 {
-    let j = store_public::judge(setup, store.len(), lens);
-    match j {
-        Verdict::Refused(e) => store_answers::store_refusal(e),
-        Verdict::Fine => {
-            let f = lookup::find(setup, store, lens, address);
-            match f {
-                Whereabouts::Refused(e) => store_answers::store_refusal(e),
-                Whereabouts::At(s) => face_words::two(
-                    0,
-                    face_words::wide(s.from),
-                    face_words::wide(s.len),
-                ),
-            }
-        }
+    if let Err(e) = store_public::judge(setup, store.len(), lens) {
+        return store_answers::store_refusal(e);
+    }
+    match lookup::find(setup, store, lens, address) {
+        Err(e) => store_answers::store_refusal(e),
+        Ok(s) => face_words::two(0, s.from as u64, s.len as u64),
     }
 }
 

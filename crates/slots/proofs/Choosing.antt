@@ -1,4 +1,5 @@
 -- The flat search for room is the model's choice.
+use Rattle.std.specs.Prelude.{Ok, Err}
 use Prim.Native.Nat.{◌+◌, ◌-◌, ◌<◌, ◌≤◌, suc, zero, ℕ}
 use Rattle.layout.proofs.Bounds.{setup_rising}
 use Rattle.layout.specs.Judge.{setup_ok}
@@ -22,7 +23,6 @@ use native.Mathlib.Nat.{le_trans, not-suc-le-zero}
 use native.Mathlib.Omega.{arith}
 use Rattle.layout.specs.declared.Setup.{Setup}
 use Rattle.slots.specs.declared.StoreRefusal.TheVariants.{DataTooLarge, StoreFull}
-use Rattle.slots.specs.declared.search.Spot.TheVariants.{Refused, At}
 
 abbrev IsFree : Slot → Type 0
 IsFree (free b) = Unit {0}
@@ -147,7 +147,7 @@ module _ (su : Setup) (st le : List ℕ) where
       (first_before p (slots_at su k) 0 s a (omega arith)))
 
   pub chosen_large : (len k : ℕ) → k ≡ first_from (fits su len) 0 su.pools → su.pools ≤ k
-      → Refused (DataTooLarge len) ≡ room_of su len (choose su.spill (view su st le) len)
+      → Err (DataTooLarge len) ≡ room_of su len (choose su.spill (view su st le) len)
   unfolding view room_of
   chosen_large len k e l =
       rw
@@ -196,8 +196,8 @@ module _ (su : Setup) (ok : setup_ok su ≡ true) (st le : List ℕ) (len k : �
   chosen_room n q = go (ltb (first_from (has_free su le) k (n - k)) n) refl
     where
       go : (b : Bool) → ltb (first_from (has_free su le) k (n - k)) n ≡ b
-          → unless b (Refused (StoreFull (n - 1)))
-          (At (cell_of su (first_from (has_free su le) k (n - k)) (free_slot su le (first_from (has_free su le) k (n - k)))))
+          → unless b (Err (StoreFull (n - 1)))
+          (Ok (cell_of su (first_from (has_free su le) k (n - k)) (free_slot su le (first_from (has_free su le) k (n - k)))))
           ≡ room_of su len (choose su.spill (view su st le) len)
       go true m =
           rw

@@ -3,15 +3,12 @@ use Prim.Native.Nat.{◌+◌, ◌-◌, ◌<◌, ◌≤◌, suc, zero, ℕ}
 use Rattle.slots.specs.Pools.{over}
 use Rattle.slots.specs.View.{part, put}
 use lib.ListN.{drop, get_or, length, length-append, length-drop, length-take, replicate, set, take, take-append-drop}
-use lib.Seq.{drop-append-le, drop-length, length-take-le, take-length}
-use mathlib.Core.List.{List, [], ◌++◌, ◌∷◌, append_assoc, append-nil}
+use lib.Seq.{drop-append-le, length-take-le}
+use mathlib.Core.List.{List, [], ◌++◌, ◌∷◌, append_assoc}
 use mathlib.Core.Path.{◌∙◌, ◌≡◌, ap, refl, sym}
-use native.Mathlib.Nat.{add-sub_cancel_left, le_of_suc-le-suc, not-suc-le-zero, sub-zero}
+use native.Mathlib.Nat.{add-sub_cancel_left, le_of_suc-le-suc, not-suc-le-zero}
 use native.Mathlib.Numerals.{add-one}
 use native.Mathlib.Omega.{arith}
-
-pub fill_end : (v : ℕ) (d : List ℕ) (n : ℕ) → n ≡ length d → replicate n v ++ drop n d ≡ replicate (length d) v
-fill_end v d n e = rw (e, drop-length, append-nil)
 
 front_suc : (n : ℕ) (s d : List ℕ) → n < length s → n < length d → set (take n s ++ drop n d) n (get_or s n 0) ≡ take (suc n) s ++ drop (suc n) d
 front_suc n [] d k l = absurd (not-suc-le-zero k)
@@ -21,10 +18,6 @@ front_suc (suc n) (x ∷ s) (y ∷ d) k l = ap (λ (t : List ℕ). x ∷ t) (fro
 
 pub front_more : (n : ℕ) (s d : List ℕ) → n < length s → n < length d → set (take n s ++ drop n d) n (get_or s n 0) ≡ take (n + 1) s ++ drop (n + 1) d
 front_more n s d k l = rw add-one (front_suc n s d k l)
-
-pub front_end : (s d : List ℕ) (n : ℕ) → n ≡ length s → take n s ++ drop n d ≡ over s d
-unfolding over
-front_end s d n e = rw (e, take-length)
 
 -- what comes back of a part, `&mut s[from..from + size]`, that was lent
 pub put_back : (from size : ℕ) (st ys zs : List ℕ) → ys ≡ zs → take from st ++ (ys ++ drop (from + size - from) (drop from st)) ≡ put from size zs st
@@ -53,13 +46,11 @@ written from size st da = ap (over da) (part_is from size st)
 pub taken_out : (from n m : ℕ) (st : List ℕ) → n ≡ m → take (from + n - from) (drop from st) ≡ part from m st
 taken_out from n m st e = part_is from n st ∙ ap (λ (k : ℕ). part from k st) e
 
--- the same for a part from the start, `&mut s[0..n]`
-pub front_back : (n m : ℕ) (st ys zs : List ℕ) → n ≡ m → ys ≡ zs → ys ++ drop (n - 0) st ≡ put 0 m zs st
+-- and of a part from the start, `&mut s[..n]`, that was filled
+pub front_filled : (v n m : ℕ) (st ys : List ℕ) → n ≡ m → m ≤ length st → ys ≡ replicate (length (take n st)) v
+    → ys ++ drop n st ≡ put 0 m (replicate m v) st
 unfolding put
-front_back n m st ys zs e f = rw (sub-zero, e, f)
-
-pub front_filled : (v n m : ℕ) (st : List ℕ) → n ≡ m → m ≤ length st → ◌≡◌ {A = List ℕ} (replicate (length (take (n - 0) st)) v) (replicate m v)
-front_filled v n m st e l = rw (sub-zero, e, length-take-le m st l)
+front_filled v n m st ys e l f = rw (f, e, length-take-le m st l)
 
 pub over_length : (da l : List ℕ) → length da ≤ length l → length (over da l) ≡ length l
 unfolding over

@@ -5,37 +5,26 @@ ghost use Rattle.slots.specs.Pools.{over};
 
 use layout::STORE_FREE;
 
+// By a loop: `fill` writes the last byte apart, which takes a third longer for a slot of 72 bytes.
 pub fn zero_fill(part: &mut [u8])
     ensures { part.new ≡ replicate (length part.old) 0 }
 {
-    let n = part.len();
-    let mut i: usize = 0;
-    while i < n {
-        part[i] = 0;
-        i += 1;
+    for byte in part.iter_mut() {
+        *byte = 0;
     }
 }
 
 pub fn mark_free(part: &mut [u16])
     ensures { part.new ≡ replicate (length part.old) store_free }
 {
-    let n = part.len();
-    let mut i: usize = 0;
-    while i < n {
-        part[i] = STORE_FREE;
-        i += 1;
-    }
+    part.fill(STORE_FREE);
 }
 
 // The packet at the front of the slot's bytes; the bytes after it stay.
+#[tactic(auto, unfolding(crate::specs::Pools::over))]
 pub fn copy_in(part: &mut [u8], packet: &[u8])
     requires { length packet.now ≤ length part.old }
     ensures { part.new ≡ over packet.now part.old }
 {
-    let n = packet.len();
-    let mut i: usize = 0;
-    while i < n {
-        part[i] = packet[i];
-        i += 1;
-    }
+    part[..packet.len()].copy_from_slice(packet);
 }

@@ -48,8 +48,8 @@ pub fn cell_at(setup: Setup, k: usize, s: usize) -> Cell
     Cell {
         pool: k,
         slot: s,
-        row: row,
-        from: from,
-        size: size,
+        row,
+        from,
+        size,
     }
 }

@@ -7,19 +7,19 @@ ghost use Rattle.stamp.specs.Stamp.{Reads, ReadsWidth, secs_of};
 
 use time::UnixTime;
 
-// What the first bytes of a slice are: a time and how many bytes its stamp has, or no stamp.
+// A stamp that was read: its time, and how many bytes it has.
 #[derive(Clone, Copy)]
-pub enum Stamp {
-    At(UnixTime, usize),
-    Refused,
+pub struct Stamp {
+    pub time: UnixTime,
+    pub len: usize,
 }
 
-// The stamp at the front of any bytes. A time that was read is in range.
-pub fn read(bytes: &[u8]) -> Stamp
+// The stamp at the front of any bytes, where there is one. A time that was read is in range.
+pub fn read(bytes: &[u8]) -> Option<Stamp>
     ensures { Reads bytes.now result }
 {
     if bytes.len() == 0 {
-        return Stamp::Refused;
+        return None;
     }
     let form = bytes[0];
     if form == 0x40 {
@@ -28,28 +28,28 @@ pub fn read(bytes: &[u8]) -> Stamp
     if form == 0x44 {
         return read_width(bytes, 3);
     }
-    Stamp::Refused
+    None
 }
 
 // A stamp whose day has `width` bytes: the one reader of both forms.
-fn read_width(bytes: &[u8], width: usize) -> Stamp
+fn read_width(bytes: &[u8], width: usize) -> Option<Stamp>
     requires { width ≤ 3 }
     ensures { ReadsWidth width bytes.now result }
 {
     let n = 5 + width;
     if bytes.len() < n {
-        return Stamp::Refused;
+        return None;
     }
     let day = words::read(bytes, 1, width);
     let ms = words::read(bytes, 1 + width, 4);
     if 86399999 < ms {
-        return Stamp::Refused;
+        return None;
     }
     let t = UnixTime {
         secs: secs(day, ms),
         nanos: (ms % 1000 * 1000000) as u32,
     };
-    Stamp::At(t, n)
+    Some(Stamp { time: t, len: n })
 }
 
 // The seconds from 1970 of a day from 1958 and its millisecond.

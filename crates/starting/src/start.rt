@@ -3,7 +3,7 @@ ghost use Rattle.std.specs.Prelude.{◌≡◌};
 ghost use Rattle.starting.specs.Inside.{StartJudges, start_record};
 
 use record::{Record, ScheduleRefusal};
-use schedule::{Setup, Verdict};
+use schedule::Setup;
 use slots::StoreRefusal;
 use time::{Margin, UnixTime};
 
@@ -14,26 +14,19 @@ pub fn judge_start(
     rows: usize,
     clock: UnixTime,
     margin: Margin,
-) -> Verdict
+) -> Result<(), ScheduleRefusal>
     ensures { StartJudges setup room lens rows clock margin result }
 {
-    let fine = schedule::setup_ok(setup);
-    if !fine {
-        return Verdict::Refused(ScheduleRefusal::Store(StoreRefusal::BadSetup));
+    if !schedule::setup_ok(setup) {
+        return Err(ScheduleRefusal::Store(StoreRefusal::BadSetup));
     }
-    let fits = schedule::buffers_ok(setup, room, lens, rows);
-    if !fits {
-        return Verdict::Refused(ScheduleRefusal::Store(StoreRefusal::BadBuffers));
+    if !schedule::buffers_ok(setup, room, lens, rows) {
+        return Err(ScheduleRefusal::Store(StoreRefusal::BadBuffers));
     }
-    let c = clock.in_range();
-    if !c {
-        return Verdict::Refused(ScheduleRefusal::BadTime);
+    if !clock.in_range() || !margin.in_range() {
+        return Err(ScheduleRefusal::BadTime);
     }
-    let m = margin.in_range();
-    if !m {
-        return Verdict::Refused(ScheduleRefusal::BadTime);
-    }
-    Verdict::Fine
+    Ok(())
 }
 
 pub fn started(clock: UnixTime, margin: Margin) -> Record
@@ -41,8 +34,8 @@ pub fn started(clock: UnixTime, margin: Margin) -> Record
 {
     Record {
         count: 0,
-        clock: clock,
-        margin: margin,
+        clock,
+        margin,
         enabled: true,
     }
 }

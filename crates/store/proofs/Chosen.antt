@@ -1,4 +1,5 @@
 -- What is known where room was chosen, or refused.
+use Rattle.std.specs.Prelude.{Ok, Err}
 use Prim.Native.Nat.{◌*◌, ◌+◌, ◌<◌, ◌≤◌, suc, zero, ℕ}
 use Rattle.address.specs.Address.{address_of}
 use Rattle.layout.proofs.Bounds.{bounds}
@@ -29,15 +30,12 @@ use mathlib.Core.Bool.{Bool, false, true}
 use mathlib.Core.List.{List, [], ◌∷◌}
 use mathlib.Core.Option.{Option, none, some}
 use mathlib.Core.Logic.{⊎_elim}
-use mathlib.Core.Path.{◌∙◌, ◌≡◌, ap, refl, subst, sym}
+use mathlib.Core.Path.{◌≡◌, ap, refl, subst, sym}
 use native.Mathlib.Nat.{not-suc-le-zero}
 use native.Mathlib.Omega.{arith}
 use Rattle.layout.specs.declared.Setup.{Setup}
 use Rattle.slots.specs.declared.Cell.{Cell}
 use Rattle.slots.specs.declared.StoreRefusal.{StoreRefusal}
-use Rattle.slots.specs.declared.search.Spot.{Spot}
-use Rattle.slots.specs.declared.search.Spot.TheVariants.{Refused, At}
-use Rattle.store.specs.declared.Added.TheVariants as Ad
 
 -- the slot size of a subpool
 unfoldable pub size_in : List Pool → ℕ → ℕ
@@ -119,7 +117,7 @@ module _ (su : Setup) (st le : List ℕ) (k i : ℕ) (q : find_at (view su st le
           ⊎_elim (λ e. (l, m, e)) (λ n. absurd (found_apart tt (find_held su st le k i l m n) q))
           (eq_or_ne (get_or le (rows_before su k + i) 0) store_free)
 
-room_at_cell : (su : Setup) (n : ℕ) (x : Choice) (c : Cell) → room_of su n x ≡ At c → (k : ℕ) × (i : ℕ) × (x ≡ into k i) × (c ≡ cell_of su k i)
+room_at_cell : (su : Setup) (n : ℕ) (x : Choice) (c : Cell) → room_of su n x ≡ Ok c → (k : ℕ) × (i : ℕ) × (x ≡ into k i) × (c ≡ cell_of su k i)
 unfolding room_of
 room_at_cell su n too_large c q = let z : ◌≡◌ {A = ℕ} 0 1 = cc in absurd (omega arith)
 room_at_cell su n (all_taken k) c q = let z : ◌≡◌ {A = ℕ} 0 1 = cc in absurd (omega arith)
@@ -139,13 +137,13 @@ module _ (su : Setup) (st le : List ℕ) (fine : Sound su st le) (n : ℕ) where
         holds = rw (size_view su st le k h.0) at o.1;
       }
 
-  pub room_found : (r : Spot) (c : Cell) → r ≡ room_of su n (choose su.spill (view su st le) n) → r ≡ At c → Room su st le n c
-  room_found r c p q =
-      let s = room_at_cell su n _ c (sym p ∙ q) in
+  pub room_found : (c : Cell) → Ok c ≡ room_of su n (choose su.spill (view su st le) n) → Room su st le n c
+  room_found c q =
+      let s = room_at_cell su n _ c (sym q) in
       subst (Room su st le n) (sym s.3) (room_there s.0 s.1 s.2)
 
 -- add
-place_refused : (su : Setup) (ps : List Pool) (d : List ℕ) (x : Choice) (e : StoreRefusal) → room_of su (length d) x ≡ Refused e
+place_refused : (su : Setup) (ps : List Pool) (d : List ℕ) (x : Choice) (e : StoreRefusal) → room_of su (length d) x ≡ Err e
     → place ps d x ≡ refused (paper e)
 unfolding room_of place spot_paper paper
 place_refused su ps d too_large e q = ap refused (ap spot_paper q)
@@ -153,20 +151,20 @@ place_refused su ps d (all_taken k) e q = ap refused (ap spot_paper q)
 place_refused su ps d (into k i) e q = let z : ◌≡◌ {A = ℕ} 0 1 = cc in absurd (omega arith)
 
 module _ (su : Setup) (st le d : List ℕ) where
-  pub add_refused : (r : Spot) (e : StoreRefusal) → r ≡ room_of su (length d) (choose su.spill (view su st le) (length d)) → r ≡ Refused e
-      → Does su st le (λ ps. add_in su.spill ps d) (added_paper (Ad.Refused e)) st le
+  pub add_refused : (e : StoreRefusal) → Err e ≡ room_of su (length d) (choose su.spill (view su st le) (length d))
+      → Does su st le (λ ps. add_in su.spill ps d) (added_paper (Err e)) st le
   unfolding add_in added_paper
-  add_refused r e p q = does_refused su st le _ (paper e) (place_refused su (view su st le) d _ e (sym p ∙ q))
+  add_refused e q = does_refused su st le _ (paper e) (place_refused su (view su st le) d _ e (sym q))
 
   -- what `add` says of a place, where nothing is written
   pub add_says : (c : Cell) → Room su st le (length d) c → (a : ℕ) → a ≡ address_of c.pool c.slot
-      → added_paper (Ad.At a) ≡ says (add_in su.spill (view su st le) d)
+      → added_paper (Ok a) ≡ says (add_in su.spill (view su st le) d)
   unfolding add_in added_paper place says
   add_says c k a e = rw (k.chosen, e)
 
   pub add_at : Sound su st le → (c : Cell) → Room su st le (length d) c → (a : ℕ) (st' le' : List ℕ) → a ≡ address_of c.pool c.slot
       → st' ≡ put c.from c.size (over d (part c.from c.size st)) st → le' ≡ set le c.row (length d)
-      → Does su st le (λ ps. add_in su.spill ps d) (added_paper (Ad.At a)) st' le'
+      → Does su st le (λ ps. add_in su.spill ps d) (added_paper (Ok a)) st' le'
   unfolding add_in added_paper place
   add_at fine c k a st' le' e p q =
       let w = k.inside in

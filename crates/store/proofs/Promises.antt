@@ -1,4 +1,5 @@
 -- The promises, from what the code did to the lists.
+use Rattle.std.specs.Prelude.{Ok, Err}
 use Prim.Native.Nat.{◌≤◌, ℕ}
 use Rattle.address.specs.Address.{pool_of, slot_of}
 use Rattle.layout.proofs.Bounds.{bounds}
@@ -18,16 +19,13 @@ use Rattle.laid.proofs.Laid.{leaves_same, lens_laid, same_lens, same_store, stor
 use Rattle.store.specs.Calls.{delete_in}
 use Rattle.store.specs.Edits.{edit, wipe}
 use Rattle.store.specs.Promise.{Does, Writes}
-use Rattle.store.specs.Refusals.{deleted_paper}
+use Rattle.store.specs.Refusals.{done_paper}
 use lib.ListN.{length, replicate, set}
 use mathlib.Core.List.{List, []}
-use mathlib.Core.Path.{◌∙◌, ◌≡◌, sym}
+use mathlib.Core.Path.{◌≡◌, sym}
 use Rattle.layout.specs.declared.Setup.{Setup}
 use Rattle.slots.specs.declared.Cell.{Cell}
 use Rattle.slots.specs.declared.StoreRefusal.{StoreRefusal}
-use Rattle.slots.specs.declared.search.Spot.{Spot}
-use Rattle.slots.specs.declared.search.Spot.TheVariants.{Refused}
-use Rattle.store.specs.declared.Deleted.TheVariants as D
 
 -- a judged call that refuses
 pub does_refused : (su : Setup) (st le : List ℕ) (call : List Pool → Outcome (List Pool)) (p : Paper) → call (view su st le) ≡ refused p
@@ -64,14 +62,14 @@ module _ (su : Setup) (st le : List ℕ) (call : List Pool → Outcome (List Poo
 
 -- delete
 module _ (su : Setup) (st le : List ℕ) (a : ℕ) where
-  pub delete_refused : (r : Spot) (e : StoreRefusal) → r ≡ spot_of su a (find (view su st le) a) → r ≡ Refused e
-      → Does su st le (λ ps. delete_in ps a) (deleted_paper (D.Refused e)) st le
-  unfolding delete_in deleted_paper
-  delete_refused r e p q = does_refused su st le _ (paper e) (spot_refused su a _ e _ (sym p ∙ q))
+  pub delete_refused : (e : StoreRefusal) → Err e ≡ spot_of su a (find (view su st le) a)
+      → Does su st le (λ ps. delete_in ps a) (done_paper (Err e)) st le
+  unfolding delete_in done_paper
+  delete_refused e q = does_refused su st le _ (paper e) (spot_refused su a _ e _ (sym q))
 
   pub delete_at : Sound su st le → (c : Cell) → PacketAt su st le a c → (st' le' : List ℕ) → st' ≡ put c.from c.size (replicate c.size 0) st
-      → le' ≡ set le c.row store_free → Does su st le (λ ps. delete_in ps a) (deleted_paper D.Done) st' le'
-  unfolding delete_in deleted_paper if_held if_named
+      → le' ≡ set le c.row store_free → Does su st le (λ ps. delete_in ps a) (done_paper (Ok tt)) st' le'
+  unfolding delete_in done_paper if_held if_named
   delete_at fine c k st' le' p q =
       let h = held_inside su st le (pool_of a) (slot_of a) _ _ k.there in
       let l = leaves_wipe su st le (bounds fine) (pool_of a) (slot_of a) h.0 h.1 h.2 in

@@ -1,4 +1,5 @@
 -- A fresh start: the lists that the code fills stand for fresh subpools.
+use Rattle.std.specs.Prelude.{Ok}
 use Prim.Native.Nat.{◌*◌, ◌+◌, ◌-◌, ◌<◌, ◌≤◌, suc, zero, ℕ}
 use Rattle.layout.proofs.Bounds.{sized_fits}
 use Rattle.layout.proofs.Layouts.{bytes_within, rows_within}
@@ -15,7 +16,7 @@ use Rattle.laid.proofs.Laid.{lens_laid, store_laid}
 use Rattle.store.proofs.Slots.{front}
 use Rattle.store.specs.Calls.{fresh_in, fresh_pools}
 use Rattle.store.specs.Promise.{Writes}
-use Rattle.store.specs.Refusals.{started_paper}
+use Rattle.store.specs.Refusals.{done_paper}
 use lib.ListN.{get_or-append, drop, get_or, get_or-replicate, length, length-append, length-drop, length-replicate, replicate, take}
 use lib.Seq.{drop_at}
 use mathlib.Core.List.{List, ◌++◌, ◌∷◌}
@@ -23,7 +24,6 @@ use mathlib.Core.Path.{◌∙◌, ◌≡◌, ap, refl, sym}
 use native.Mathlib.Nat.{le_of_suc-le-suc, mul-le-mul_right, not-suc-le-zero, sub-zero}
 use native.Mathlib.Omega.{arith}
 use Rattle.layout.specs.declared.Setup.{Setup}
-use Rattle.store.specs.declared.Started.TheVariants as St
 
 take_repeated : (z n v : ℕ) → z ≤ n → take z (replicate n v) ≡ replicate z v
 take_repeated zero n v h = refl
@@ -85,8 +85,8 @@ module _ (su : Setup) (st le : List ℕ) (s : Sized su st le) where
         same_rows = filled_length store_free (all_rows su) le f.2;
       })
 
-  pub fresh_done : (st' le' : List ℕ) → Leaves su st le (fresh_pools su) st' le' → Writes su st le (fresh_in su st le) (started_paper St.Done) st' le'
-  unfolding fresh_in sized unless says after started_paper
+  pub fresh_done : (st' le' : List ℕ) → Leaves su st le (fresh_pools su) st' le' → Writes su st le (fresh_in su st le) (done_paper (Ok tt)) st' le'
+  unfolding fresh_in sized unless says after done_paper
   fresh_done st' le' l =
       rw (s.setup, s.buffers)
       (record {

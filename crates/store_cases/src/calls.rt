@@ -1,64 +1,13 @@
-// Lines that change what is lent: the store's own calls, and damage.
+// The calls that change what is lent.
 ghost use Rattle.std.specs.Prelude.{◌≤◌};
 
-use crate::command;
 use layout::Setup;
-use store::Added;
-use text::{line, out};
-
-pub fn run(
-    rt: &impl Print,
-    setup: Setup,
-    k: usize,
-    text: &[u8],
-    store: &mut [u8],
-    lens: &mut [u16],
-    buf: &mut [u8],
-) {
-    if k == command::START {
-        start(rt, setup, store, lens);
-        return;
-    }
-    if k == command::ADD {
-        add(rt, setup, text, store, lens);
-        return;
-    }
-    if k == command::FILL {
-        fill(setup, text, store, lens);
-        return;
-    }
-    if k == command::DELETE {
-        delete(rt, setup, text, store, lens);
-        return;
-    }
-    if k == command::MODIFY {
-        modify(rt, setup, text, store, lens);
-        return;
-    }
-    if k == command::MODIFY_WITH {
-        modify_with(rt, setup, text, store, lens);
-        return;
-    }
-    damage(k, text, store, lens, buf);
-}
-
-fn damage(k: usize, text: &[u8], store: &mut [u8], lens: &mut [u16], buf: &mut [u8]) {
-    if k == command::BYTES {
-        set(line::byte(text, 1), store);
-        set(line::byte(text, 3), buf);
-        return;
-    }
-    if k == command::LENGTHS {
-        set_lengths(line::short(text, 1), lens);
-        return;
-    }
-    if k == command::LENGTH {
-        set_length(text, lens);
-    }
-}
+use slots::StoreRefusal;
+use text::line::Line;
+use text::out;
 
 // A fresh start, and the judge.
-fn start(rt: &impl Print, setup: Setup, store: &mut [u8], lens: &mut [u16]) {
+pub fn start(rt: &impl Print, setup: Setup, store: &mut [u8], lens: &mut [u16]) {
     out::say(rt, b": fresh ");
     shown::started(rt, store_public::fresh(setup, store, lens));
     out::say(rt, b", judge ");
@@ -66,109 +15,71 @@ fn start(rt: &impl Print, setup: Setup, store: &mut [u8], lens: &mut [u16]) {
 }
 
 // A packet of given bytes; or of a number of bytes, all of one value.
-fn add(rt: &impl Print, setup: Setup, text: &[u8], store: &mut [u8], lens: &mut [u16]) {
+pub fn add(rt: &impl Print, setup: Setup, store: &mut [u8], lens: &mut [u16], line: Line) {
     out::say(rt, b": ");
-    if line::which(text, 1, b"bytes") == 0 {
-        let mut packet = [0u8; 64];
-        let n = line::bytes(text, 2, &mut packet);
-        shown::added(rt, store_public::add(setup, store, lens, &packet[..n]));
-        return;
-    }
-    shown::added(
-        rt,
-        put(
-            setup,
-            store,
-            lens,
-            line::part(text, 1, 4096),
-            line::byte(text, 3),
-        ),
-    );
+    let mut room = [0; 64];
+    let a = if line.word(1) == b"bytes".as_slice() {
+        store_public::add(setup, store, lens, line.bytes(2, &mut room))
+    } else {
+        put(setup, store, lens, line.index(1).min(4096), line.byte(3))
+    };
+    shown::added(rt, a);
 }
 
-fn put(setup: Setup, store: &mut [u8], lens: &mut [u16], n: usize, v: u8) -> Added
+fn put(
+    setup: Setup,
+    store: &mut [u8],
+    lens: &mut [u16],
+    n: usize,
+    v: u8,
+) -> Result<u64, StoreRefusal>
     requires { n ≤ 4096 }
 {
     let packet = [v; 4096];
-    store_public::add(setup, store, lens, &packet[0..n])
+    store_public::add(setup, store, lens, &packet[..n])
 }
 
-// A number of such packets.
-fn fill(setup: Setup, text: &[u8], store: &mut [u8], lens: &mut [u16]) {
-    let count = line::index(text, 1);
-    let n = line::part(text, 4, 4096);
-    let mut i: usize = 0;
-    while i < count {
-        put(setup, store, lens, n, 1);
-        i += 1;
+// A number of such packets, as far as there is room.
+pub fn fill(setup: Setup, store: &mut [u8], lens: &mut [u16], line: Line) {
+    let n = line.index(4).min(4096);
+    for _ in 0..line.index(1) {
+        let _ = put(setup, store, lens, n, 1);
     }
 }
 
-fn delete(rt: &impl Print, setup: Setup, text: &[u8], store: &mut [u8], lens: &mut [u16]) {
+pub fn delete(rt: &impl Print, setup: Setup, store: &mut [u8], lens: &mut [u16], addr: u64) {
     out::say(rt, b": ");
-    shown::deleted(
-        rt,
-        store_public::delete(setup, store, lens, line::number(text, 1)),
-    );
+    shown::deleted(rt, store_public::delete(setup, store, lens, addr));
 }
 
 // Given bytes are written through the part that is lent, as many as it has.
-fn modify(rt: &impl Print, setup: Setup, text: &[u8], store: &mut [u8], lens: &[u16]) {
-    let addr = line::number(text, 1);
-    let mut given = [0u8; 64];
-    let n = line::bytes(text, 3, &mut given);
+pub fn modify(rt: &impl Print, setup: Setup, store: &mut [u8], lens: &[u16], line: Line) {
+    let addr = line.number(1);
+    let mut room = [0; 64];
+    let given = line.bytes(3, &mut room);
     out::say(rt, b": ");
     shown::length(rt, store_public::modify(setup, store, lens, addr));
     let part = store_public::modify_part(setup, store, lens, addr);
     out::number(rt, b", lent ", part.len() as u64);
-    write(part, &given[..n]);
-}
-
-fn write(part: &mut [u8], given: &[u8]) {
-    let n = part.len();
-    let mut i: usize = 0;
-    while i < n {
-        if i >= given.len() {
-            return;
-        }
-        part[i] = given[i];
-        i += 1;
+    for (to, from) in part.iter_mut().zip(given) {
+        *to = *from;
     }
 }
 
 // The same in one call.
-fn modify_with(rt: &impl Print, setup: Setup, text: &[u8], store: &mut [u8], lens: &[u16]) {
-    let addr = line::number(text, 1);
-    let mut given = [0u8; 64];
-    let n = line::bytes(text, 3, &mut given);
+pub fn modify_with(rt: &impl Print, setup: Setup, store: &mut [u8], lens: &[u16], line: Line) {
+    let mut room = [0; 64];
+    let given = line.bytes(3, &mut room);
     out::say(rt, b": ");
     shown::length(
         rt,
-        modifying::modify_with(setup, store, lens, addr, &given[..n]),
+        modifying::modify_with(setup, store, lens, line.number(1), given),
     );
 }
 
-fn set(v: u8, part: &mut [u8]) {
-    let n = part.len();
-    let mut i: usize = 0;
-    while i < n {
-        part[i] = v;
-        i += 1;
-    }
-}
-
-fn set_lengths(v: u16, lens: &mut [u16]) {
-    let n = lens.len();
-    let mut i: usize = 0;
-    while i < n {
-        lens[i] = v;
-        i += 1;
-    }
-}
-
-fn set_length(text: &[u8], lens: &mut [u16]) {
-    let i = line::index(text, 1);
+// A length of the table, where it has it.
+pub fn set_length(lens: &mut [u16], i: usize, v: u16) {
     if i < lens.len() {
-        lens[i] = line::short(text, 3);
+        lens[i] = v;
     }
 }

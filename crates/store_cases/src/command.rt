@@ -1,48 +1,50 @@
 // What a line does, by its first word: what is given, calls and damage first, then questions. A line of no such word is a remark.
-use text::line;
+use text::line::Line;
 
-pub const SETUP: usize = 0;
+#[derive(Clone, Copy, PartialEq, Eq)]
+pub enum Command {
+    Setup,
+    Lend,
+    Start,
+    Add,
+    Fill,
+    Delete,
+    Modify,
+    ModifyWith,
+    Bytes,
+    Lengths,
+    Length,
+    Read,
+    Judge,
+    Address,
+    Good,
+    Subpool,
+    Decode,
+    Show,
+}
 
-pub const LEND: usize = 1;
-
-pub const START: usize = 2;
-
-pub const ADD: usize = 3;
-
-pub const FILL: usize = 4;
-
-pub const DELETE: usize = 5;
-
-pub const MODIFY: usize = 6;
-
-pub const MODIFY_WITH: usize = 7;
-
-pub const BYTES: usize = 8;
-
-pub const LENGTHS: usize = 9;
-
-pub const LENGTH: usize = 10;
-
-pub const ASKING: usize = 11;
-
-pub const READ: usize = 11;
-
-pub const JUDGE: usize = 12;
-
-pub const ADDRESS: usize = 13;
-
-pub const GOOD: usize = 14;
-
-pub const SUBPOOL: usize = 15;
-
-pub const DECODE: usize = 16;
-
-pub const SHOW: usize = 17;
-
-pub fn of(text: &[u8]) -> usize {
-    line::which(
-        text,
-        0,
-        b"Setup Lend start add fill delete modify modify_with Bytes Lengths Length read judge address good subpool decode Show",
-    )
+impl Command {
+    pub fn of(line: Line) -> Option<Command> {
+        match line.word(0) {
+            b"Setup" => Some(Command::Setup),
+            b"Lend" => Some(Command::Lend),
+            b"start" => Some(Command::Start),
+            b"add" => Some(Command::Add),
+            b"fill" => Some(Command::Fill),
+            b"delete" => Some(Command::Delete),
+            b"modify" => Some(Command::Modify),
+            b"modify_with" => Some(Command::ModifyWith),
+            b"Bytes" => Some(Command::Bytes),
+            b"Lengths" => Some(Command::Lengths),
+            b"Length" => Some(Command::Length),
+            b"read" => Some(Command::Read),
+            b"judge" => Some(Command::Judge),
+            b"address" => Some(Command::Address),
+            b"good" => Some(Command::Good),
+            b"subpool" => Some(Command::Subpool),
+            b"decode" => Some(Command::Decode),
+            b"Show" => Some(Command::Show),
+            _ => None,
+        }
+    }
 }

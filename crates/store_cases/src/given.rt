@@ -1,7 +1,7 @@
 // What a call is given: the setup, and how much of the store and of the lengths is lent.
-use crate::command;
+use crate::command::Command;
 use layout::Setup;
-use text::line;
+use text::line::Line;
 
 #[derive(Clone, Copy)]
 pub struct Given {
@@ -10,64 +10,53 @@ pub struct Given {
     pub lens: usize,
 }
 
-// Room for the largest store.
-pub fn room() -> [u8; 1048576] {
-    [0u8; 1048576]
+// What a call is lent of it.
+#[derive(Drop)]
+pub struct Lent<'a> {
+    pub setup: Setup,
+    pub store: &'a mut [u8],
+    pub lens: &'a mut [u16],
+    pub buf: &'a mut [u8],
 }
 
-// Nothing is set up, and nothing lent.
-pub fn none() -> Given {
-    lent(setup(b""), b"")
-}
+impl Given {
+    // Nothing is set up, and nothing lent.
+    pub fn none() -> Given {
+        Given {
+            setup: setup(Line(b"")),
+            room: 0,
+            lens: 0,
+        }
+    }
 
-fn lent(setup: Setup, text: &[u8]) -> Given {
-    Given {
-        setup: setup,
-        room: line::index(text, 1),
-        lens: line::index(text, 2),
+    // After a line that sets up or lends; any other changes neither.
+    pub fn by(self, command: Command, line: Line) -> Given {
+        match command {
+            Command::Setup => Given {
+                setup: setup(line),
+                ..self
+            },
+            Command::Lend => Given {
+                room: line.index(1),
+                lens: line.index(2),
+                ..self
+            },
+            _ => self,
+        }
     }
-}
-
-// A line that sets up or lends, and any other, which changes neither.
-pub fn by(b: Given, k: usize, text: &[u8]) -> Given {
-    let old = b.setup;
-    if k == command::SETUP {
-        return Given {
-            setup: setup(text),
-            room: b.room,
-            lens: b.lens,
-        };
-    }
-    if k == command::LEND {
-        return lent(old, text);
-    }
-    b
 }
 
 // Subpools, whether it spills, then size and slots of each.
-fn setup(text: &[u8]) -> Setup {
-    Setup {
-        pools: line::index(text, 1),
-        sizes: [
-            line::short(text, 3),
-            line::short(text, 5),
-            line::short(text, 7),
-            line::short(text, 9),
-            line::short(text, 11),
-            line::short(text, 13),
-            line::short(text, 15),
-            line::short(text, 17),
-        ],
-        slots: [
-            line::short(text, 4),
-            line::short(text, 6),
-            line::short(text, 8),
-            line::short(text, 10),
-            line::short(text, 12),
-            line::short(text, 14),
-            line::short(text, 16),
-            line::short(text, 18),
-        ],
-        spill: line::number(text, 2) == 1,
+fn setup(line: Line) -> Setup {
+    let mut setup = Setup {
+        pools: line.index(1),
+        sizes: [0; 8],
+        slots: [0; 8],
+        spill: line.number(2) == 1,
+    };
+    for k in 0..8 {
+        setup.sizes[k] = line.short(3 + 2 * k);
+        setup.slots[k] = line.short(4 + 2 * k);
     }
+    setup
 }

@@ -1,71 +1,44 @@
 // Lines that ask: the store's own questions, addresses, and what is lent.
-use crate::{command, damage};
 use address::StaticPoolAddr;
 use layout::Setup;
-use text::{line, out};
-
-pub fn run(
-    rt: &impl Print,
-    setup: Setup,
-    k: usize,
-    text: &[u8],
-    store: &[u8],
-    lens: &[u16],
-    buf: &mut [u8],
-) {
-    if k == command::READ {
-        read(rt, setup, text, store, lens, buf);
-        return;
-    }
-    if k == command::JUDGE {
-        out::say(rt, b": ");
-        shown::verdict(rt, store_public::judge(setup, store.len(), lens));
-        return;
-    }
-    if k == command::ADDRESS {
-        about(rt, setup, addr(text), store, lens);
-        return;
-    }
-    if k == command::GOOD {
-        out::number(rt, b": ", damage::good_lengths(setup));
-        return;
-    }
-    if k == command::SHOW {
-        show(rt, text, store, lens, buf);
-        return;
-    }
-    address(rt, k, text);
-}
-
-fn address(rt: &impl Print, k: usize, text: &[u8]) {
-    if k == command::SUBPOOL {
-        encode(rt, line::short(text, 1), line::short(text, 3));
-    }
-    if k == command::DECODE {
-        decode(rt, addr(text));
-    }
-}
+use text::line::Line;
+use text::out;
 
 // The packet at an address, into as much of the buffer as is lent.
-fn read(rt: &impl Print, setup: Setup, text: &[u8], store: &[u8], lens: &[u16], buf: &mut [u8]) {
-    let n = line::part(text, 3, buf.len());
+pub fn read(rt: &impl Print, setup: Setup, store: &[u8], lens: &[u16], buf: &mut [u8], line: Line) {
+    let n = line.index(3).min(buf.len());
     out::say(rt, b": ");
     shown::length(
         rt,
-        store_public::read(setup, store, lens, line::number(text, 1), &mut buf[0..n]),
+        store_public::read(setup, store, lens, line.number(1), &mut buf[..n]),
     );
 }
 
-fn addr(text: &[u8]) -> u64 {
-    if line::which(text, 1, b"INVALID_ADDR") == 0 {
-        return StaticPoolAddr::INVALID_ADDR;
+pub fn judge(rt: &impl Print, setup: Setup, store: &[u8], lens: &[u16]) {
+    out::say(rt, b": ");
+    shown::verdict(rt, store_public::judge(setup, store.len(), lens));
+}
+
+// How many of the lengths 0 to 65535 the first slot may be given, of three rows over 64 bytes.
+pub fn good(rt: &impl Print, setup: Setup) {
+    let fine = (0..=u16::MAX)
+        .filter(|n| store_public::judge(setup, 64, &[*n, 65535, 65535]).is_ok())
+        .count();
+    out::number(rt, b": ", fine as u64);
+}
+
+// The address that a line's word 1 is.
+pub fn addr(line: Line) -> u64 {
+    if line.word(1) == b"INVALID_ADDR".as_slice() {
+        StaticPoolAddr::INVALID_ADDR
+    } else {
+        line.number(1)
     }
-    line::number(text, 1)
 }
 
 // What four calls say of an address.
-fn about(rt: &impl Print, setup: Setup, addr: u64, store: &[u8], lens: &[u16]) {
-    let mut own = [0u8; 64];
+pub fn about(rt: &impl Print, setup: Setup, store: &[u8], lens: &[u16], addr: u64) {
+    let mut own = [0; 64];
     out::say(rt, b": has ");
     shown::presence(rt, store_public::has_element_at(setup, store, lens, addr));
     out::say(rt, b", len ");
@@ -76,39 +49,40 @@ fn about(rt: &impl Print, setup: Setup, addr: u64, store: &[u8], lens: &[u16]) {
     shown::length(rt, store_public::read(setup, store, lens, addr, &mut own));
 }
 
-fn encode(rt: &impl Print, pool: u16, slot: u16) {
+pub fn encode(rt: &impl Print, pool_idx: u16, packet_idx: u16) {
     let a = StaticPoolAddr {
-        pool_idx: pool,
-        packet_idx: slot,
+        pool_idx,
+        packet_idx,
     };
     out::number(rt, b": address ", a.encode());
 }
 
-fn decode(rt: &impl Print, addr: u64) {
+pub fn decode(rt: &impl Print, addr: u64) {
     let a = StaticPoolAddr::decode(addr);
     out::number(rt, b": address ", addr);
-    out::number(rt, b", subpool ", a.pool_idx as u64);
-    out::number(rt, b", slot ", a.packet_idx as u64);
+    out::number(rt, b", subpool ", u64::from(a.pool_idx));
+    out::number(rt, b", slot ", u64::from(a.packet_idx));
     if StaticPoolAddr::is_invalid(addr) {
         out::say(rt, b", invalid");
     }
 }
 
-// Bytes of the store, lengths or bytes of the buffer, from one place to another.
-fn show(rt: &impl Print, text: &[u8], store: &[u8], lens: &[u16], buf: &[u8]) {
-    let k = line::which(text, 1, b"store lengths buffer");
+// Bytes of the store from one place to another; the first lengths; or, of any other word, the first bytes of the buffer.
+pub fn show(rt: &impl Print, store: &[u8], lens: &[u16], buf: &[u8], line: Line) {
     out::say(rt, b":");
-    if k == 0 {
-        let e = line::part(text, 4, store.len());
-        let a = line::part(text, 2, e);
-        out::numbers8(rt, &store[a..e]);
-        return;
+    match line.word(1) {
+        b"store" => {
+            let end = line.index(4).min(store.len());
+            let start = line.index(2).min(end);
+            out::numbers(rt, &store[start..end]);
+        }
+        b"lengths" => {
+            let end = line.index(2).min(lens.len());
+            out::numbers(rt, &lens[..end]);
+        }
+        _ => {
+            let end = line.index(2).min(buf.len());
+            out::numbers(rt, &buf[..end]);
+        }
     }
-    if k == 1 {
-        let e = line::part(text, 2, lens.len());
-        out::numbers16(rt, &lens[0..e]);
-        return;
-    }
-    let e = line::part(text, 2, buf.len());
-    out::numbers8(rt, &buf[0..e]);
 }

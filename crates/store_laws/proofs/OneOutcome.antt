@@ -1,4 +1,6 @@
 -- A promise allows one outcome only: one answer, and one content of every lent list.
+use Rattle.std.specs.Prelude.{Result, Bool}
+use Rattle.slots.specs.declared.StoreRefusal.{StoreRefusal}
 use Prim.Native.Nat.{ℕ}
 use Rattle.rules.specs.Papers.{Outcome, Paper, says}
 use Rattle.layout.proofs.Bounds.{sized_fits}
@@ -11,22 +13,16 @@ use Rattle.layout.specs.Judge.{Sized, Sound}
 use Rattle.slots.specs.Pools.{Pool}
 use Rattle.store.specs.Promise.{Does, Writes}
 use Rattle.lookup.specs.Promise.{Reads}
-use Rattle.store.specs.Refusals.{added_paper, deleted_paper, started_paper, verdict_paper}
+use Rattle.store.specs.Refusals.{added_paper, done_paper}
 use Rattle.lookup.specs.Refusals.{length_paper, presence_paper}
 use Rattle.reading.specs.Reading.{Lends}
 use Rattle.slots.specs.View.{Leaves}
-use Rattle.store_laws.proofs.OneToOne.{one_added, one_deleted, one_length, one_presence, one_started, one_verdict}
+use Rattle.store_laws.proofs.OneToOne.{one_added, one_done, one_length, one_presence}
 use lib.ListN.{length}
 use mathlib.Core.List.{List}
 use mathlib.Core.Path.{◌∙◌, ◌≡◌, ap, sym}
 use Rattle.layout.specs.declared.Setup.{Setup}
 use Rattle.lookup.specs.declared.Span.{Span}
-use Rattle.store.specs.declared.Verdict.{Verdict}
-use Rattle.store.specs.declared.Added.{Added}
-use Rattle.store.specs.declared.Deleted.{Deleted}
-use Rattle.store.specs.declared.Started.{Started}
-use Rattle.lookup.specs.declared.Length.{Length}
-use Rattle.lookup.specs.declared.Presence.{Presence}
 
 -- by numbers and values: calls that write both lists, and `read`, which writes its buffer
 module _ (su : Setup) (st le : List ℕ) (o : Outcome (List Pool)) (p q : Paper) (st₁ le₁ st₂ le₂ : List ℕ) where
@@ -39,37 +35,37 @@ one_reading o buf p q buf₁ buf₂ w v = (w.answer ∙ sym v.answer, w.buffer �
 
 -- and by the answers themselves: `add`, `delete`, a modify that is given its bytes, `fresh`
 module _ (su : Setup) (st le : List ℕ) (o : Outcome (List Pool)) (st₁ le₁ st₂ le₂ : List ℕ) where
-  pub one_add : (r s : Added) → Writes su st le o (added_paper r) st₁ le₁ → Writes su st le o (added_paper s) st₂ le₂
+  pub one_add : (r s : Result ℕ StoreRefusal) → Writes su st le o (added_paper r) st₁ le₁ → Writes su st le o (added_paper s) st₂ le₂
       → (r ≡ s) × (st₁ ≡ st₂) × (le₁ ≡ le₂)
   one_add r s w v = let e = one_outcome su st le o _ _ st₁ le₁ st₂ le₂ w v in (one_added r s e.0, e.1, e.2)
 
-  pub one_delete : (r s : Deleted) → Writes su st le o (deleted_paper r) st₁ le₁ → Writes su st le o (deleted_paper s) st₂ le₂
+  pub one_delete : (r s : Result (Unit {0}) StoreRefusal) → Writes su st le o (done_paper r) st₁ le₁ → Writes su st le o (done_paper s) st₂ le₂
       → (r ≡ s) × (st₁ ≡ st₂) × (le₁ ≡ le₂)
-  one_delete r s w v = let e = one_outcome su st le o _ _ st₁ le₁ st₂ le₂ w v in (one_deleted r s e.0, e.1, e.2)
+  one_delete r s w v = let e = one_outcome su st le o _ _ st₁ le₁ st₂ le₂ w v in (one_done r s e.0, e.1, e.2)
 
-  pub one_modify_with : (r s : Length) → Writes su st le o (length_paper r) st₁ le₁ → Writes su st le o (length_paper s) st₂ le₂
+  pub one_modify_with : (r s : Result ℕ StoreRefusal) → Writes su st le o (length_paper r) st₁ le₁ → Writes su st le o (length_paper s) st₂ le₂
       → (r ≡ s) × (st₁ ≡ st₂) × (le₁ ≡ le₂)
   one_modify_with r s w v = let e = one_outcome su st le o _ _ st₁ le₁ st₂ le₂ w v in (one_length r s e.0, e.1, e.2)
 
-  pub one_fresh : (r s : Started) → Writes su st le o (started_paper r) st₁ le₁ → Writes su st le o (started_paper s) st₂ le₂
+  pub one_fresh : (r s : Result (Unit {0}) StoreRefusal) → Writes su st le o (done_paper r) st₁ le₁ → Writes su st le o (done_paper s) st₂ le₂
       → (r ≡ s) × (st₁ ≡ st₂) × (le₁ ≡ le₂)
-  one_fresh r s w v = let e = one_outcome su st le o _ _ st₁ le₁ st₂ le₂ w v in (one_started r s e.0, e.1, e.2)
+  one_fresh r s w v = let e = one_outcome su st le o _ _ st₁ le₁ st₂ le₂ w v in (one_done r s e.0, e.1, e.2)
 
 -- `read`
-pub one_read : (o : Outcome (List ℕ)) (buf : List ℕ) (r s : Length) (buf₁ buf₂ : List ℕ) → Reads o buf (length_paper r) buf₁
+pub one_read : (o : Outcome (List ℕ)) (buf : List ℕ) (r s : Result ℕ StoreRefusal) (buf₁ buf₂ : List ℕ) → Reads o buf (length_paper r) buf₁
     → Reads o buf (length_paper s) buf₂ → (r ≡ s) × (buf₁ ≡ buf₂)
 one_read o buf r s buf₁ buf₂ w v = let e = one_reading o buf _ _ buf₁ buf₂ w v in (one_length r s e.0, e.1)
 
 -- `modify`, `len_of_data`, `has_element_at`, `judge`
 module _ {A : Type 0} (o : Outcome A) where
-  pub one_modify_or_len : (r s : Length) → length_paper r ≡ says o → length_paper s ≡ says o → r ≡ s
+  pub one_modify_or_len : (r s : Result ℕ StoreRefusal) → length_paper r ≡ says o → length_paper s ≡ says o → r ≡ s
   one_modify_or_len r s w v = one_length r s (w ∙ sym v)
 
-  pub one_has : (r s : Presence) → presence_paper r ≡ says o → presence_paper s ≡ says o → r ≡ s
+  pub one_has : (r s : Result Bool StoreRefusal) → presence_paper r ≡ says o → presence_paper s ≡ says o → r ≡ s
   one_has r s w v = one_presence r s (w ∙ sym v)
 
-  pub one_judge : (r s : Verdict) → verdict_paper r ≡ says o → verdict_paper s ≡ says o → r ≡ s
-  one_judge r s w v = one_verdict r s (w ∙ sym v)
+  pub one_judge : (r s : Result (Unit {0}) StoreRefusal) → done_paper r ≡ says o → done_paper s ≡ says o → r ≡ s
+  one_judge r s w v = one_done r s (w ∙ sym v)
 
 -- the part that `modify_part` lends: its start and its length
 pub one_part : (su : Setup) (st le : List ℕ) (a : ℕ) (s t : Span) → Lends su st le a s → Lends su st le a t → (s.from ≡ t.from) × (s.len ≡ t.len)

@@ -1,4 +1,5 @@
 -- What the lists stand for after a public call on a sound store: its promise in a judged call's form.
+use Rattle.std.specs.Prelude.{Ok}
 use Prim.Native.Nat.{ℕ}
 use Rattle.rules.specs.Papers.{Outcome, Paper, done, no, refused, says}
 use Rattle.rules.specs.Tests.{unless}
@@ -14,7 +15,7 @@ use Rattle.slots.specs.Inside.{cell_of}
 use Rattle.layout.specs.Judge.{Sized, Sound, buffers_ok, setup_ok, sized}
 use Rattle.slots.specs.Pools.{Choice, Found, Pool, all_taken, choose, find, held, into, no_pool, no_slot, too_large, vacant}
 use Rattle.store.specs.Promise.{Does, Writes}
-use Rattle.store.specs.Refusals.{started_paper}
+use Rattle.store.specs.Refusals.{done_paper}
 use Rattle.slots.specs.View.{Leaves, view}
 use lib.ListN.{length, take}
 use mathlib.Core.Bool.{Bool, false, true}
@@ -22,7 +23,6 @@ use mathlib.Core.List.{List, [], ◌∷◌}
 use mathlib.Core.Path.{◌∙◌, ◌≡◌, ap, refl, sym}
 use native.Mathlib.Omega.{arith}
 use Rattle.layout.specs.declared.Setup.{Setup}
-use Rattle.store.specs.declared.Started.TheVariants as St
 
 pub sized_of : {su : Setup} {st le : List ℕ} → Sound su st le → Sized su st le
 sized_of s = record { setup = s.setup; buffers = s.buffers }
@@ -94,9 +94,9 @@ both_passed false b ps q = let z : ◌≡◌ {A = ℕ} 0 1 = ap (λ (p : Paper).
 both_passed true false ps q = let z : ◌≡◌ {A = ℕ} 0 2 = ap (λ (p : Paper). p.number) q in absurd (omega arith)
 
 -- a fresh start that was not refused
-pub fresh_made : (su : Setup) (st le st' le' : List ℕ) → Writes su st le (fresh_in su st le) (started_paper St.Done) st' le'
+pub fresh_made : (su : Setup) (st le st' le' : List ℕ) → Writes su st le (fresh_in su st le) (done_paper (Ok tt)) st' le'
     → Sized su st le × Leaves su st le (fresh_pools su) st' le'
-unfolding fresh_in sized started_paper
+unfolding fresh_in sized done_paper
 fresh_made su st le st' le' w =
     let b = both_passed (setup_ok su) (buffers_ok su (length st) (length le)) (fresh_pools su) w.answer in
     let s : Sized su st le = record { setup = b.0; buffers = b.1 } in

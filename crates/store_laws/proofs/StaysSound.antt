@@ -1,19 +1,19 @@
 -- A sound store stays sound under every call.
 -- `read`, presence, length and a modify that is given no bytes are lent both lists for reading alone; what is written through the part
 -- that `modify_part` lends is a modify with those bytes (WrittenThrough).
+use Rattle.std.specs.Prelude.{Ok}
 use Prim.Native.Nat.{ℕ}
 use Rattle.rules.specs.Papers.{Paper}
 use Rattle.store.specs.Calls.{add_in, delete_in, fresh_in, fresh_pools, modify_in}
 use Rattle.lookup.specs.Calls.{judging}
 use Rattle.layout.specs.Judge.{Sized, Sound}
 use Rattle.store.specs.Promise.{Does, Writes}
-use Rattle.store.specs.Refusals.{started_paper}
+use Rattle.store.specs.Refusals.{done_paper}
 use Rattle.slots.specs.View.{Leaves, view}
 use Rattle.store_laws.proofs.Fitting.{add_fits, delete_fits, fresh_fits, modify_fits, sound_of, view_fits}
 use Rattle.store_laws.proofs.Reached.{add_done, delete_done, fresh_made, modify_done, sized_of}
 use mathlib.Core.List.{List}
 use Rattle.layout.specs.declared.Setup.{Setup}
-use Rattle.store.specs.declared.Started.TheVariants as St
 
 module _ (su : Setup) (st le : List ℕ) (s : Sound su st le) where
   pub add_stays : (d : List ℕ) (p : Paper) (st' le' : List ℕ) → Does su st le (λ ps. add_in su.spill ps d) p st' le' → Sound su st' le'
@@ -42,5 +42,5 @@ module _ (su : Setup) (st le : List ℕ) (s : Sound su st le) where
 pub judged_fresh_sound : (su : Setup) (st le st' le' : List ℕ) → Sized su st le → Leaves su st le (fresh_pools su) st' le' → Sound su st' le'
 judged_fresh_sound su st le st' le' s l = sound_of su st le (fresh_pools su) st' le' s l (fresh_fits su)
 
-pub fresh_sound : (su : Setup) (st le st' le' : List ℕ) → Writes su st le (fresh_in su st le) (started_paper St.Done) st' le' → Sound su st' le'
+pub fresh_sound : (su : Setup) (st le st' le' : List ℕ) → Writes su st le (fresh_in su st le) (done_paper (Ok tt)) st' le' → Sound su st' le'
 fresh_sound su st le st' le' w = let f = fresh_made su st le st' le' w in judged_fresh_sound su st le st' le' f.0 f.1

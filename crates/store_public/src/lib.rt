@@ -5,7 +5,7 @@ ghost use Rattle.std.specs.Prelude.{◌≡◌, [], ◌+◌};
 ghost use Rattle.rules.specs.Papers.{says, done};
 ghost use Rattle.layout.specs.Judge.{judged as fineOr};
 ghost use Rattle.lookup.specs.Refusals.{length_paper, presence_paper};
-ghost use Rattle.store.specs.Refusals.{deleted_paper, added_paper, started_paper, verdict_paper};
+ghost use Rattle.store.specs.Refusals.{added_paper, done_paper};
 ghost use Rattle.lookup.specs.Calls.{packet_in, judging};
 ghost use Rattle.store.specs.Calls.{delete_in, add_in, fresh_in};
 ghost use Rattle.lookup.specs.Promise.{Reads};
@@ -14,74 +14,72 @@ ghost use Rattle.reading.specs.Reading.{Lends, lent_bytes, lent_from, read_in};
 ghost use Rattle.store.specs.Promise.{Writes};
 
 use layout::Setup;
-use lookup::{Length, Presence, Span};
+use lookup::Span;
 use slots::StoreRefusal;
-use store::{Added, Deleted, Started, Verdict, judged};
+use store::judged;
 
 // Refusals 1 to 3 in their order: every call below starts with them. room is the length of the lent store.
-pub fn judge(setup: Setup, room: usize, lens: &[u16]) -> Verdict
-    ensures { verdict_paper result ≡ says (fineOr setup room lens.now (done [] (tt {0}))) }
+pub fn judge(setup: Setup, room: usize, lens: &[u16]) -> Result<(), StoreRefusal>
+    ensures { done_paper result ≡ says (fineOr setup room lens.now (done [] (tt {0}))) }
 {
-    let fine = layout::setup_ok(setup);
-    if !fine {
-        return Verdict::Refused(StoreRefusal::BadSetup);
+    if !layout::setup_ok(setup) {
+        return Err(StoreRefusal::BadSetup);
     }
-    let fits = layout::buffers_ok(setup, room, lens.len());
-    if !fits {
-        return Verdict::Refused(StoreRefusal::BadBuffers);
+    if !layout::buffers_ok(setup, room, lens.len()) {
+        return Err(StoreRefusal::BadBuffers);
     }
-    let sound = layout::lens_ok(setup, lens);
-    if !sound {
-        return Verdict::Refused(StoreRefusal::StateDamaged);
+    if !layout::lens_ok(setup, lens) {
+        return Err(StoreRefusal::StateDamaged);
     }
-    Verdict::Fine
+    Ok(())
 }
 
-pub fn add(setup: Setup, store: &mut [u8], lens: &mut [u16], packet: &[u8]) -> Added
+pub fn add(
+    setup: Setup,
+    store: &mut [u8],
+    lens: &mut [u16],
+    packet: &[u8],
+) -> Result<u64, StoreRefusal>
     ensures { Writes setup store.old lens.old
         (judging setup store.old lens.old (λ ps. add_in setup.spill ps packet.now))
         (added_paper result) store.new lens.new }
 {
-    let j = judge(setup, store.len(), lens);
-    match j {
-        Verdict::Refused(e) => Added::Refused(e),
-        Verdict::Fine => judged::add(setup, store, lens, packet),
-    }
+    judge(setup, store.len(), lens)?;
+    judged::add(setup, store, lens, packet)
 }
 
 // The packet goes to the front of buf; the rest of buf stays.
-pub fn read(setup: Setup, store: &[u8], lens: &[u16], addr: u64, buf: &mut [u8]) -> Length
+pub fn read(
+    setup: Setup,
+    store: &[u8],
+    lens: &[u16],
+    addr: u64,
+    buf: &mut [u8],
+) -> Result<usize, StoreRefusal>
     ensures { Reads
         (judging setup store.now lens.now (λ ps. read_in ps addr buf.old))
         buf.old (length_paper result) buf.new }
 {
-    let j = judge(setup, store.len(), lens);
-    match j {
-        Verdict::Refused(e) => Length::Refused(e),
-        Verdict::Fine => reading::read(setup, store, lens, addr, buf),
-    }
+    judge(setup, store.len(), lens)?;
+    reading::read(setup, store, lens, addr, buf)
 }
 
 // The length of the packet that `modify_part` lends, or why it lends none.
-pub fn modify(setup: Setup, store: &[u8], lens: &[u16], addr: u64) -> Length
+pub fn modify(setup: Setup, store: &[u8], lens: &[u16], addr: u64) -> Result<usize, StoreRefusal>
     ensures { length_paper result ≡ says (judging setup store.now lens.now (λ ps. packet_in ps addr)) }
 {
-    let j = judge(setup, store.len(), lens);
-    match j {
-        Verdict::Refused(e) => Length::Refused(e),
-        Verdict::Fine => reading::modify(setup, store, lens, addr),
-    }
+    judge(setup, store.len(), lens)?;
+    reading::modify(setup, store, lens, addr)
 }
 
 // What `modify_part` lends: nothing at the start of the store where `modify` refuses.
 fn lent(setup: Setup, store: &[u8], lens: &[u16], addr: u64) -> Span
     ensures { Lends setup store.now lens.now addr result }
 {
-    let j = judge(setup, store.len(), lens);
-    match j {
-        Verdict::Refused(_) => Span { from: 0, len: 0 },
-        Verdict::Fine => reading::lent(setup, store, lens, addr),
+    if judge(setup, store.len(), lens).is_err() {
+        return Span { from: 0, len: 0 };
     }
+    reading::lent(setup, store, lens, addr)
 }
 
 // The packet's bytes as a writable part of the store.
@@ -101,52 +99,56 @@ pub fn modify_part<'a, 'b>(
     &mut store[from..end]
 }
 
-pub fn delete(setup: Setup, store: &mut [u8], lens: &mut [u16], addr: u64) -> Deleted
+pub fn delete(
+    setup: Setup,
+    store: &mut [u8],
+    lens: &mut [u16],
+    addr: u64,
+) -> Result<(), StoreRefusal>
     ensures { Writes setup store.old lens.old
         (judging setup store.old lens.old (λ ps. delete_in ps addr))
-        (deleted_paper result) store.new lens.new }
+        (done_paper result) store.new lens.new }
 {
-    let j = judge(setup, store.len(), lens);
-    match j {
-        Verdict::Refused(e) => Deleted::Refused(e),
-        Verdict::Fine => judged::delete(setup, store, lens, addr),
-    }
+    judge(setup, store.len(), lens)?;
+    judged::delete(setup, store, lens, addr)
 }
 
-pub fn has_element_at(setup: Setup, store: &[u8], lens: &[u16], addr: u64) -> Presence
+pub fn has_element_at(
+    setup: Setup,
+    store: &[u8],
+    lens: &[u16],
+    addr: u64,
+) -> Result<bool, StoreRefusal>
     ensures { presence_paper result ≡ says (judging setup store.now lens.now (λ ps. has_in ps addr)) }
 {
-    let j = judge(setup, store.len(), lens);
-    match j {
-        Verdict::Refused(e) => Presence::Refused(e),
-        Verdict::Fine => presence::has_element_at(setup, store, lens, addr),
-    }
+    judge(setup, store.len(), lens)?;
+    presence::has_element_at(setup, store, lens, addr)
 }
 
-pub fn len_of_data(setup: Setup, store: &[u8], lens: &[u16], addr: u64) -> Length
+pub fn len_of_data(
+    setup: Setup,
+    store: &[u8],
+    lens: &[u16],
+    addr: u64,
+) -> Result<usize, StoreRefusal>
     ensures { length_paper result ≡ says (judging setup store.now lens.now (λ ps. len_in ps addr)) }
 {
-    let j = judge(setup, store.len(), lens);
-    match j {
-        Verdict::Refused(e) => Length::Refused(e),
-        Verdict::Fine => presence::len_of_data(setup, store, lens, addr),
-    }
+    judge(setup, store.len(), lens)?;
+    presence::len_of_data(setup, store, lens, addr)
 }
 
 // The store's half of the fresh start.
-pub fn fresh(setup: Setup, store: &mut [u8], lens: &mut [u16]) -> Started
+pub fn fresh(setup: Setup, store: &mut [u8], lens: &mut [u16]) -> Result<(), StoreRefusal>
     ensures { Writes setup store.old lens.old
         (fresh_in setup store.old lens.old)
-        (started_paper result) store.new lens.new }
+        (done_paper result) store.new lens.new }
 {
-    let fine = layout::setup_ok(setup);
-    if !fine {
-        return Started::Refused(StoreRefusal::BadSetup);
+    if !layout::setup_ok(setup) {
+        return Err(StoreRefusal::BadSetup);
     }
-    let fits = layout::buffers_ok(setup, store.len(), lens.len());
-    if !fits {
-        return Started::Refused(StoreRefusal::BadBuffers);
+    if !layout::buffers_ok(setup, store.len(), lens.len()) {
+        return Err(StoreRefusal::BadBuffers);
     }
     judged::fresh(setup, store, lens);
-    Started::Done
+    Ok(())
 }

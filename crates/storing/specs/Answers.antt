@@ -1,10 +1,10 @@
 -- Document 01's number and values for what an insertion by bytes answers: 0 for one that is no refusal.
-use Rattle.std.specs.Prelude.{[], ◌∷◌}
+use Rattle.std.specs.Prelude.{Result, Ok, Err, [], ◌∷◌}
+use Rattle.record.specs.declared.ScheduleRefusal.{ScheduleRefusal}
+use Rattle.rows.specs.declared.TcInfo.{TcInfo}
 use Rattle.record.specs.Refusals.{paper}
 use Rattle.rules.specs.Papers.{Paper, no}
-use Rattle.storing.specs.declared.InsertAnswer.{InsertAnswer}
-use Rattle.storing.specs.declared.InsertAnswer.TheVariants as I
 
-unfoldable pub inserted_paper : InsertAnswer → Paper
-inserted_paper (I.Inserted i) = no 0 (i.addr ∷ i.request_id ∷ [])
-inserted_paper (I.Refused e) = paper e
+unfoldable pub inserted_paper : Result TcInfo ScheduleRefusal → Paper
+inserted_paper (Ok i) = no 0 (i.addr ∷ i.request_id ∷ [])
+inserted_paper (Err e) = paper e

@@ -3,17 +3,10 @@
 use Rattle.std.specs.Prelude.{List}
 use Rattle.record.specs.Refusals.{paper}
 use Rattle.record.specs.declared.ScheduleRefusal.{ScheduleRefusal}
-use Rattle.record.specs.declared.ScheduleRefusal.TheVariants.{Store}
 use Rattle.rules.specs.Papers.{Outcome, Paper, done, refused}
 use Rattle.slots.specs.Pools.{Pool}
-use Rattle.store.specs.declared.Added.{Added}
-use Rattle.store.specs.declared.Added.TheVariants as A
 
--- the store's refusal, and where it has none the schedule's own: of what `add` would answer, and of what it comes to
-unfoldable pub first_refusal : Added → ScheduleRefusal → ScheduleRefusal
-first_refusal (A.Refused x) own = Store x
-first_refusal (A.At a) own = own
-
+-- the store's refusal, and where it has none the schedule's own
 unfoldable pub first_paper : Outcome (List Pool) → ScheduleRefusal → Paper
 first_paper (refused p) own = p
 first_paper (done vs ps) own = paper own

@@ -1,17 +1,23 @@
 -- How many entries lie before a moment: in an ordered list these are all that do; and the search, row by row.
-use Prim.Native.Nat.{◌+◌, ◌<◌, ◌≤◌, suc, zero, ℕ}
+use Prim.Native.Nat.{◌*◌, ◌+◌, ◌<◌, ◌≤◌, suc, zero, ℕ}
 use Rattle.rows.proofs.Order.{ordered_at, ordered_cons}
-use Rattle.rows.proofs.Rows.{drop_row, past_end}
-use Rattle.rows.specs.Entries.{Entry, row, time, unpack}
-use Rattle.rows.specs.Order.{ordered_from}
+use Rattle.rows.specs.Entries.{Entry, entries, entry, time}
+use Rattle.std.proofs.lemmas.Bool.Decides.{nat_tests}
+use Rattle.std.specs.List.{position_or_len}
+use Rattle.time.specs.Time.{giga}
+use Rattle.rows.specs.Order.{ordered, ordered_from}
+use Rattle.std.specs.Option.{unwrap_or}
+use Rattle.std.proofs.Common.{Option, Some, None}
 use Rattle.rules.proofs.Cases.{le_or_lt}
+use Rattle.table.proofs.Reached.{reached}
 use Rattle.table.specs.Before.{below}
 use borrow.Author.Tests.{le-ltb, lt-ltb}
-use lib.ListN.{drop, get_or, length}
-use mathlib.Core.Bool.{true}
+use lib.Dec.{ltb}
+use lib.ListN.{get_or, length, length-map}
+use mathlib.Core.Bool.{cond, false, true}
 use mathlib.Core.List.{List, [], ◌∷◌}
 use mathlib.Core.Logic.{⊎_elim}
-use mathlib.Core.Path.{◌≡◌, refl}
+use mathlib.Core.Path.{◌≡◌, refl, sym}
 use native.Mathlib.Nat.{le_of_suc-le-suc, not-suc-le-zero}
 use native.Mathlib.Omega.{arith}
 
@@ -53,15 +59,35 @@ below_above t u (e ∷ es) (suc i) d o l h =
     let b = ordered_at (time e) es i d a.rest (le_of_suc-le-suc l) in
     omega (arith, below_head t e es (omega arith), below_above t (time e) es i d a.rest (le_of_suc-le-suc l) h)
 
--- ---- the search, row by row
+-- ---- the search: the first row that is not before the moment
 
-pub below_end : (t n : ℕ) (w : List ℕ) (i : ℕ) → n ≤ i → below t (drop i (unpack n w)) ≡ 0
-unfolding below
-below_end t n w i h = rw (past_end n w i h)
+module _ (secs nanos : ℕ) (h : nanos ≤ giga) where
+  reached_yes : (r : List ℕ) → secs * giga + nanos ≤ time (entry r) → (entry r).nanos < giga → reached secs nanos r ≡ true
+  reached_yes r l b = grind (arith, nat_tests)
 
-pub below_stop : (t n : ℕ) (w : List ℕ) (i : ℕ) → i < n → t ≤ time (row w i) → below t (drop i (unpack n w)) ≡ 0
-below_stop t n w i h l = rw (drop_row n w i h) (below_not t (row w i) _ l)
+  reached_no : (r : List ℕ) → time (entry r) < secs * giga + nanos → reached secs nanos r ≡ false
+  reached_no r l = grind (arith, nat_tests)
 
-pub below_go : (t n : ℕ) (w : List ℕ) (i : ℕ) → i < n → time (row w i) < t
-    → below t (drop i (unpack n w)) ≡ suc (below t (drop (i + 1) (unpack n w)))
-below_go t n w i h l = rw (drop_row n w i h) (below_head t (row w i) _ l)
+  pub reached_below : (u : ℕ) (t : List (List ℕ)) → ordered_from u (entries t) ≡ true
+      → position_or_len (reached secs nanos) t ≡ below (secs * giga + nanos) (entries t)
+  reached_below u [] o = unfold below in refl
+  reached_below u (r ∷ t) o =
+      let a = ordered_cons u (entry r) (entries t) o in
+      ⊎_elim
+      (λ (l : secs * giga + nanos ≤ time (entry r)). rw (reached_yes r l a.range.nanos_lt) (sym (below_not _ (entry r) (entries t) l)))
+      (λ (l : time (entry r) < secs * giga + nanos).
+      rw (reached_no r l) (omega (arith, below_head _ (entry r) (entries t) l, reached_below (time (entry r)) t a.rest)))
+      (le_or_lt (secs * giga + nanos) (time (entry r)))
+
+  pub found_below : (t : List (List ℕ)) (n : ℕ) (o : Option ℕ) → ordered (entries t) ≡ true → length t ≡ n
+      → o ≡ cond (ltb (position_or_len (reached secs nanos) t) (length t)) (Some (position_or_len (reached secs nanos) t)) None
+      → (unwrap_or o n ≤ n) × (unwrap_or o n ≡ below (secs * giga + nanos) (entries t))
+  found_below t n o k l q =
+      let p = reached_below 0 t k in
+      let m = below_le (secs * giga + nanos) (entries t) in
+      let w = length-map t entry in
+      rw (q, p)
+      (⊎_elim
+      (λ (x : length t ≤ below (secs * giga + nanos) (entries t)). rw le-ltb (omega arith, omega arith))
+      (λ (x : below (secs * giga + nanos) (entries t) < length t). rw lt-ltb (omega arith, refl))
+      (le_or_lt (length t) (below (secs * giga + nanos) (entries t))))

@@ -1,2 +1,3 @@
 -- Laws of the search by time.
+pub mod Reached
 pub mod Before

@@ -8,7 +8,6 @@ ghost use Rattle.rows.specs.Order.{Sound};
 ghost use Rattle.table.specs.Before.{below as belowOf};
 ghost use Rattle.time.specs.Time.{MomentInRange, giga, instant_of};
 
-use rows::ROW;
 use time::Moment;
 
 // How many rows are before the moment.
@@ -17,7 +16,7 @@ pub fn below(rows: &[u64], count: usize, m: Moment) -> usize
     requires moment_in_range { MomentInRange m }
     ensures { (result ≤ count) × (result ≡ belowOf (instant_of m) (unpack count rows.now)) }
 {
-    below_words(rows, count, m.secs, m.nanos as u64)
+    below_words(rows, count, m.secs, u64::from(m.nanos))
 }
 
 // How many rows are not after the moment.
@@ -26,7 +25,7 @@ pub fn up_to(rows: &[u64], count: usize, m: Moment) -> usize
     requires moment_in_range { MomentInRange m }
     ensures { (result ≤ count) × (result ≡ belowOf (instant_of m + 1) (unpack count rows.now)) }
 {
-    below_words(rows, count, m.secs, (m.nanos as u64) + 1)
+    below_words(rows, count, m.secs, u64::from(m.nanos) + 1)
 }
 
 // Nanoseconds may be a whole second: what follows a second's last nanosecond.
@@ -35,19 +34,9 @@ fn below_words(rows: &[u64], count: usize, secs: u64, nanos: u64) -> usize
     requires nanos_le_giga { nanos ≤ giga }
     ensures { (result ≤ count) × (result ≡ belowOf (secs * giga + nanos) (unpack count rows.now)) }
 {
-    let mut i = 0;
-    while i < count {
-        let b = i * ROW;
-        let s = rows[b];
-        if secs < s {
-            return i;
-        }
-        if s == secs {
-            if nanos <= rows[b + 1] {
-                return i;
-            }
-        }
-        i += 1;
-    }
-    i
+    // As (secs, nanos) <= (s, n) the test takes half as many instructions again.
+    rows::table(rows, count)
+        .iter()
+        .position(|&[s, n, _, _]| secs < s || s == secs && nanos <= n)
+        .unwrap_or(count)
 }

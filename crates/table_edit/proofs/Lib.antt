@@ -1,5 +1,4 @@
--- Laws of changes: words moved, rows written, order; where an inserted entry stands, what a removal leaves, and what both keep.
-pub mod Words
+-- Laws of changes: rows copied and written, order; where an inserted entry stands, what a removal leaves, and what both keep.
 pub mod Written
 pub mod Ordering
 pub mod WindowLeft

@@ -3,7 +3,7 @@ use Prim.Native.Nat.{◌*◌, ◌+◌, ◌-◌, ◌<◌, ◌≤◌, max, ℕ}
 use Rattle.rows.proofs.Rows.{entry≡, length_pack, relaid_at}
 use Rattle.rows.specs.Entries.{Entry, pack, relaid, row, width}
 use Rattle.selection.specs.Match.{none}
-use Rattle.table_edit.proofs.Words.{get_d_past}
+use Rattle.std.proofs.lemmas.List.{get_or-append_right}
 use Rattle.table_edit.specs.Edits.{after_remove}
 use lib.ListN.{get_or-append, drop, get_or, get_or-replicate, length, length-append, length-replicate, replicate}
 use lib.Seq.{get_or-drop}
@@ -21,7 +21,7 @@ module _ (old : List ℕ) (n : ℕ) (es : List Entry) where
       let k : ℕ = max n (length es) * width in
       let l : length (pack es ++ replicate z 0) ≡ k = simp (length-append, length_pack, length-replicate) (omega arith) in
       let q : k + (j - k) ≡ j = omega arith in
-      get_d_past (pack es ++ replicate z 0) (drop k old) j k l h ∙ get_or-drop k old (j - k) 0 ∙ ap (λ (i : ℕ). get_or old i 0) q
+      get_or-append_right (pack es ++ replicate z 0) (drop k old) k j 0 l h ∙ get_or-drop k old (j - k) 0 ∙ ap (λ (i : ℕ). get_or old i 0) q
 
   zero_at : (j : ℕ) → length es * width ≤ j → j < n * width → get_or (relaid old n es) j 0 ≡ 0
   unfolding relaid
@@ -32,7 +32,7 @@ module _ (old : List ℕ) (n : ℕ) (es : List Entry) where
       let lz : length zeros ≡ z = length-replicate z 0 in
       let i : ℕ = j - length es * width in
       ap (λ (x : List ℕ). get_or x j 0) (append_assoc (pack es) zeros rest)
-      ∙ get_d_past (pack es) (zeros ++ rest) j (length es * width) (length_pack es) h
+      ∙ get_or-append_right (pack es) (zeros ++ rest) (length es * width) j 0 (length_pack es) h
       ∙ get_or-append zeros rest 0 i (omega arith)
       ∙ get_or-replicate z i 0 0 (omega arith)
 

@@ -1,3 +1,2 @@
 -- The schedule's table, changed.
 pub mod Edits
-pub mod Inside

@@ -7,12 +7,9 @@ ghost use Rattle.rows.specs.Entries.{entry_of, relaid, unpack};
 ghost use Rattle.rows.specs.Order.{Held, Sound};
 ghost use Rattle.time.specs.Time.{MomentInRange};
 
-use crate::shift::{clear, move_down, move_up};
 use rows::ROW;
 use table::up_to;
 use time::Moment;
-
-mod shift;
 
 // Puts a row after every row that is not later.
 pub fn insert(rows: &mut [u64], count: usize, release: Moment, id: u64, addr: u64)
@@ -33,9 +30,10 @@ fn insert_at(rows: &mut [u64], count: usize, at: usize, release: Moment, id: u64
         ≡ relaid rows.old count (insert_at at (entry_of release id addr) (unpack count rows.old)) }
 {
     let b = at * ROW;
-    move_up(rows, b + ROW, b, (count - at) * ROW);
+    rows.copy_within(b..count * ROW, b + ROW);
+    // One store a word: an array of the four, copied, would go through the stack.
     rows[b] = release.secs;
-    rows[b + 1] = release.nanos as u64;
+    rows[b + 1] = u64::from(release.nanos);
     rows[b + 2] = id;
     rows[b + 3] = addr;
 }
@@ -46,8 +44,7 @@ pub fn remove(rows: &mut [u64], count: usize, from: usize, n: usize)
     requires n_bound { from + n ≤ count }
     ensures { rows.new ≡ after_remove rows.old count from n }
 {
-    let a = from * ROW;
-    let rest = (count - from - n) * ROW;
-    move_down(rows, a, (from + n) * ROW, rest);
-    clear(rows, a + rest, n * ROW);
+    let end = count * ROW;
+    rows.copy_within((from + n) * ROW..end, from * ROW);
+    rows[(count - n) * ROW..end].fill(0);
 }

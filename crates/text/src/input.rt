@@ -11,16 +11,18 @@ pub fn large_buffer() -> [u8; 65536]
     [0; 65536]
 }
 
-// Reads until the buffer is full, the input ends or a read fails: how many bytes stand at its start.
-pub fn read_full(from: &mut impl Read, buf: &mut [u8]) -> usize
-    ensures { IsPrefixLen result buf.new }
+// Reads until the buffer is full, the input ends or a read fails: the part of the buffer that was filled.
+pub fn read<'a>(from: &mut impl Read, room: &'a mut [u8]) -> &'a [u8] {
+    let n = read_full(from, room);
+    &room[..n]
+}
+
+// The same, told by its length.
+pub fn read_full(from: &mut impl Read, room: &mut [u8]) -> usize
+    ensures { IsPrefixLen result room.new }
 {
-    let mut done: usize = 0;
-    while done < buf.len() {
-        let n = from.read(&mut buf[done..]).unwrap_or(0);
-        if n == 0 {
-            return done;
-        }
+    let mut done = 0;
+    while let Ok(n @ 1..) = from.read(&mut room[done..]) {
         done += n;
     }
     done

@@ -1,11 +1,11 @@
 -- What a tick comes to, by the parts that the code took one after the other.
+use Rattle.std.specs.Prelude.{Err, None, Ok, Option, Some}
 use Prim.Native.Nat.{◌+◌, ◌-◌, ◌<◌, ◌≤◌, min, ℕ}
 use lib.ListN.{length, length-drop}
 use mathlib.Core.Bool.{Bool}
 use mathlib.Core.List.{List, [], ◌∷◌}
 use mathlib.Core.Path.{◌≡◌, ◌∙◌, ap, ap₂, sym}
 use native.Mathlib.Omega.{arith}
-use Rattle.release_log.specs.Log.{max_log_bytes}
 use Rattle.record.specs.Refusals.{paper}
 use Rattle.record.specs.declared.Record.{Record}
 use Rattle.record.specs.declared.ScheduleRefusal.TheVariants.{LogTooSmall}
@@ -26,8 +26,6 @@ use Rattle.tick.proofs.Lacking.{hands_out, lacks_first, short_log}
 use Rattle.tick.specs.Inside.{lack}
 use Rattle.tick.specs.Promise.{TickDoes, left, tick_paper}
 use Rattle.tick.specs.Tick.{handed_out, tick_in, usable}
-use Rattle.tick.specs.declared.TickAnswer.TheVariants.{HandedOut, Refused}
-use Rattle.tick.specs.declared.Ticked.{Ticked}
 use Rattle.time.specs.Time.{InRange, MomentInRange, instant, instant_of, moment_of}
 use Rattle.time.specs.declared.Moment.{Moment}
 use Rattle.time.specs.declared.UnixTime.{UnixTime}
@@ -51,27 +49,25 @@ module _ (su : Setup) (r : Record) (st le ro log : List ℕ) (limit : ℕ) (dele
   unfolding after through
   refused_by p q = record { tables = does_refused su r st le ro (λ x. left (tick_in limit delete log x)) p (rw q); log = rw q }
 
-  -- what the code answers, as what the tick comes to
-  answered : (x : Ticked) (t : ℕ) → (x.next ≡ r) × (x.answer ≡ Refused (LogTooSmall t)) → tick_in limit delete log s ≡ refused (no 20 (t ∷ []))
-      → TickDoes su r st le ro log (tick_in limit delete log) (tick_paper x.answer) x.next st le ro log
+  -- refusal 20
+  short_by : (t : ℕ) → tick_in limit delete log s ≡ refused (no 20 (t ∷ []))
+      → TickDoes su r st le ro log (tick_in limit delete log) (tick_paper (Err (LogTooSmall t))) r st le ro log
   unfolding tick_paper paper
-  answered x t e q = rw (e.0, e.1) (refused_by (no 20 (t ∷ [])) q)
+  short_by t q = refused_by (no 20 (t ∷ [])) q
 
-  pub tick_short : (x : Ticked) → (x.next ≡ r) × (x.answer ≡ Refused (LogTooSmall 8)) → length log < 8
-      → TickDoes su r st le ro log (tick_in limit delete log) (tick_paper x.answer) x.next st le ro log
-  tick_short x e h = answered x 8 e (short_log limit delete log s h)
+  pub tick_short : length log < 8 → TickDoes su r st le ro log (tick_in limit delete log) (tick_paper (Err (LogTooSmall 8))) r st le ro log
+  tick_short h = short_by 8 (short_log limit delete log s h)
 
-  module _ (cap d n t : ℕ) (long : 8 ≤ length log) (ec : cap ≡ usable log) (ed : d ≡ due (instant r.clock) es) (en : n ≡ min d limit)
-      (et : t ≡ lack n cap es ps) where
-    lack_is : t ≡ lack (min (due (instant r.clock) es) limit) (usable log) es ps
-    lack_is = et ∙ rw (en, ec, ed)
+  module _ (cap d n : ℕ) (long : 8 ≤ length log) (ec : cap ≡ usable log) (ed : d ≡ due (instant r.clock) es) (en : n ≡ min d limit) where
+    lack_is : (o : Option ℕ) → o ≡ lack n cap es ps → o ≡ lack (min (due (instant r.clock) es) limit) (usable log) es ps
+    lack_is o e = e ∙ rw (en, ec, ed)
 
-    pub tick_lacks : (x : Ticked) → (x.next ≡ r) × (x.answer ≡ Refused (LogTooSmall t)) → 0 < t
-        → TickDoes su r st le ro log (tick_in limit delete log) (tick_paper x.answer) x.next st le ro log
+    pub tick_lacks : (t : ℕ) → Some t ≡ lack n cap es ps
+        → TickDoes su r st le ro log (tick_in limit delete log) (tick_paper (Err (LogTooSmall t))) r st le ro log
     unfolding state_of
-    tick_lacks x e h = answered x t e (lacks_first limit delete log s t long lack_is h)
+    tick_lacks t e = short_by t (lacks_first limit delete log s t long (lack_is (Some t) e))
 
-    module _ (m : ℕ) (st' le' ro' log' : List ℕ) (none : t ≤ 0) (some : d ≤ r.count)
+    module _ (m : ℕ) (st' le' ro' log' : List ℕ) (none : None ≡ lack n cap es ps) (some : d ≤ r.count)
         (w : Released su.store delete r.enabled n cap r.count st le ro log m st' le' ro' log') where
       h : Handout
       h = handout (leave delete) (always r.enabled) (instant r.clock) limit 8 (usable log) es ps
@@ -100,7 +96,7 @@ module _ (su : Setup) (r : Record) (st le ro log : List ℕ) (limit : ℕ) (dele
 
       hands : tick_in limit delete log s ≡ handed_out log s h
       unfolding h state_of
-      hands = hands_out limit delete log s t long lack_is none
+      hands = hands_out limit delete log s long (lack_is None none)
 
       whole : left (tick_in limit delete log s) ≡ done (m ∷ (d - m) ∷ []) next
       unfolding handed_out through next state_of
@@ -110,11 +106,11 @@ module _ (su : Setup) (r : Record) (st le ro log : List ℕ) (limit : ℕ) (dele
       unfolding next state_of
       record_is = rw length_left
 
-      pub tick_hands : (n' : Record) → n' ≡ with_count (r.count - m) r
-          → TickDoes su r st le ro log (tick_in limit delete log) (tick_paper (HandedOut (record { m = m; remain = d - m }))) n' st' le' ro' log'
+      pub tick_hands : TickDoes su r st le ro log (tick_in limit delete log) (tick_paper (Ok (record { m = m; remain = d - m })))
+          (with_count (r.count - m) r) st' le' ro' log'
       unfolding tick_paper after handed_out next
-      tick_hands n' e =
-          rw (e, ← record_is)
+      tick_hands =
+          rw (← record_is)
           (record {
             tables =
                 does_done su r st le ro (λ x. left (tick_in limit delete log x)) (m ∷ (d - m) ∷ []) next st' le' ro' whole out.lists
@@ -142,13 +138,3 @@ module _ {su : Setup} {r : Record} {st le ro : List ℕ} (s : Sound su r st le r
 pub due_by : (clock : UnixTime) (m : Moment) (es : List Entry) (d : ℕ) → m ≡ moment_of clock → d ≡ below (instant_of m + 1) es
     → d ≡ due (instant clock) es
 due_by clock m es d e q = q ∙ rw e
-
--- what is allowed of what is due lies within the rows, and the log's used part within the log
-pub few_rows : (count d limit n : ℕ) → d ≤ count → n ≡ min d limit → n ≤ count
-few_rows count d limit n h e = omega arith
-
-pub some_rows : (count d limit n m : ℕ) → d ≤ count → n ≡ min d limit → m ≤ n → m ≤ count
-some_rows count d limit n m h e l = omega arith
-
-pub used_part : (long cap : ℕ) → cap ≡ min long max_log_bytes → 8 ≤ long → (8 ≤ cap) × (cap ≤ max_log_bytes) × (cap ≤ long)
-used_part long cap e h = (omega arith, omega arith, omega arith)

@@ -1,5 +1,7 @@
 -- What the tick promises: what every call that writes promises, and the log over the one it was given.
-use Rattle.std.specs.Prelude.{ℕ, List, [], ◌∷◌, ◌≡◌}
+use Rattle.std.specs.Prelude.{Result, Ok, Err, ℕ, List, [], ◌∷◌, ◌≡◌}
+use Rattle.record.specs.declared.ScheduleRefusal.{ScheduleRefusal}
+use Rattle.tick.specs.declared.Handed.{Handed}
 use Rattle.record.specs.Refusals.{paper}
 use Rattle.record.specs.declared.Record.{Record}
 use Rattle.rules.specs.Papers.{Outcome, Paper, after, through, no}
@@ -7,13 +9,11 @@ use Rattle.schedule.specs.Promise.{Does, Writes}
 use Rattle.schedule.specs.State.{State, state_of}
 use Rattle.schedule.specs.declared.Setup.{Setup}
 use Rattle.tick.specs.Tick.{Logged}
-use Rattle.tick.specs.declared.TickAnswer.{TickAnswer}
-use Rattle.tick.specs.declared.TickAnswer.TheVariants as T
 
 -- the number of what was handed out, and of what is due and remains
-unfoldable pub tick_paper : TickAnswer → Paper
-tick_paper (T.HandedOut h) = no 0 (h.m ∷ h.remain ∷ [])
-tick_paper (T.Refused e) = paper e
+unfoldable pub tick_paper : Result Handed ScheduleRefusal → Paper
+tick_paper (Ok h) = no 0 (h.m ∷ h.remain ∷ [])
+tick_paper (Err e) = paper e
 
 abbrev pub left : Outcome Logged → Outcome State
 left o = through (λ x. x.state) o

@@ -1,8 +1,6 @@
 // The release tick (document 01; the original's `release_telecommands`): due entries leave the schedule, and a log says what became of each.
 #![tactic(auto)]
 
-use record::{Record, ScheduleRefusal};
-
 pub mod judged;
 
 // How many entries were handed out, and how many due ones remain.
@@ -10,16 +8,4 @@ pub mod judged;
 pub struct Handed {
     pub m: usize,
     pub remain: usize,
-}
-
-#[derive(Clone, Copy)]
-pub enum TickAnswer {
-    HandedOut(Handed),
-    Refused(ScheduleRefusal),
-}
-
-#[derive(Clone, Copy)]
-pub struct Ticked {
-    pub next: Record,
-    pub answer: TickAnswer,
 }

@@ -2,29 +2,41 @@
 #![tactic(auto)]
 
 mod calls;
-mod given;
-mod state;
+mod edits;
+mod kind;
 mod ticked;
+mod view;
 
-use text::{input, line};
-
-fn main(rt: HostRuntime) {
-    let mut text = input::large_buffer();
-    let n = input::read_full(&mut rt.stdin(), &mut text);
-    all(&rt, &text[..n]);
-}
+use kind::Kind;
+use lent::Bench;
+use text::line::{Line, Lines};
+use text::{input, out, say};
 
 // Room for the largest store, 256 slots, 4,096 entries, and some beyond each but the store.
-fn all(rt: &impl Print, text: &[u8]) {
-    let mut store = state::room();
-    let mut lens = [60000u16; 258];
-    let mut rows = [77u64; 16388];
-    let mut b = given::none();
-    let mut at: usize = 0;
-    while at < text.len() {
-        let end = line::end(text, at, b'\n');
-        let next = line::next(text, end);
-        b = calls::one(rt, b, &text[at..end], &mut store, &mut lens, &mut rows);
-        at = next;
+const BYTES: usize = 1048576;
+
+const LENGTHS: usize = 258;
+
+const WORDS: usize = 16388;
+
+type Large = Bench<BYTES, LENGTHS, WORDS>;
+
+fn main(rt: HostRuntime) {
+    let mut room = input::large_buffer();
+    let mut bench = edits::bench();
+    for line in Lines(input::read(&mut rt.stdin(), &mut room)) {
+        out::say(&rt, line.0);
+        one(&rt, &mut bench, line);
+        say!(&rt; "\n");
+    }
+}
+
+fn one(rt: &impl Print, bench: &mut Large, line: Line) {
+    match Kind::of(line) {
+        Kind::Tick => ticked::run(rt, bench, line),
+        Kind::View => view::run(rt, bench, line),
+        Kind::Call(call) => calls::run(bench, call, line),
+        Kind::Edit(edit) => edits::run(bench, edit, line),
+        Kind::Remark => {}
     }
 }

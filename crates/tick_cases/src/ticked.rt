@@ -1,93 +1,81 @@
-// A tick: its answer, its log, and what it changed, found by comparison with copies: also of what was not lent.
-use crate::state;
+// A tick: its answer, its log, and what it changed, found by comparison with a copy.
+use crate::Large;
 use lent::Lent;
 use record::Record;
-use text::{line, out};
+use text::form::Hex;
+use text::line::Line;
+use text::say;
 
-pub fn run(
-    rt: &impl Print,
-    b: Lent,
-    text: &[u8],
-    store: &mut [u8; 1048576],
-    lens: &mut [u16; 258],
-    rows: &mut [u64; 16388],
-) -> Lent {
-    let s = *store;
-    let l = *lens;
-    let r = *rows;
-    let rec = logged(rt, b, text, store, lens, rows);
-    changes(rt, b.rec, rec);
-    lent::same_tables(rt, &s, store, &l, lens, &r, rows);
-    lent::with_record(b, rec)
+// Longer than the part that a tick uses.
+const LOG_ROOM: usize = 1048584;
+
+// What each byte of a log is before the tick.
+const BLANK: u8 = 238;
+
+pub fn run(rt: &impl Print, bench: &mut Large, line: Line) {
+    let old = *bench;
+    let mut log = blank();
+    tick(rt, bench, line, &mut log);
+    show_log(rt, written(&log));
+    changes(rt, old.rec, bench.rec);
+    bench.say_changed(rt, &old);
 }
 
-// The log is longer than the part that a tick uses.
-fn logged(
-    rt: &impl Print,
-    b: Lent,
-    text: &[u8],
-    store: &mut [u8],
-    lens: &mut [u16],
-    rows: &mut [u64],
-) -> Record {
-    let mut log = state::blank();
-    let rec = on_lent(rt, b, text, store, lens, rows, &mut log);
-    state::show_log(rt, &log);
-    rec
+// In a function of its own, so that no proof unfolds so long an array.
+fn blank() -> [u8; LOG_ROOM] {
+    [BLANK; LOG_ROOM]
 }
 
-// On as much of the tables as is lent, and a log of the length that the line says.
-fn on_lent(
-    rt: &impl Print,
-    b: Lent,
-    text: &[u8],
-    store: &mut [u8],
-    lens: &mut [u16],
-    rows: &mut [u64],
-    log: &mut [u8],
-) -> Record {
-    let s = line::least(b.room, store.len());
-    let l = line::least(b.lens, lens.len());
-    let r = line::least(b.rows, rows.len());
-    let n = line::part(text, 3, log.len());
-    tick(
-        rt,
-        b,
-        text,
-        &mut store[0..s],
-        &mut lens[0..l],
-        &mut rows[0..r],
-        &mut log[0..n],
-    )
+// Keep or delete, the log's length, and the limit.
+fn tick(rt: &impl Print, bench: &mut Large, line: Line, log: &mut [u8]) {
+    let n = line.index(3).min(log.len());
+    let Lent {
+        setup,
+        rec,
+        store,
+        lens,
+        rows,
+    } = bench.lend();
+    let answer = tick_public::tick(
+        setup,
+        rec,
+        store,
+        lens,
+        rows,
+        &mut log[..n],
+        line.index(5),
+        line.word(1) == b"delete,".as_slice(),
+    );
+    say!(rt; " => ");
+    shown::ticked(rt, answer);
 }
 
-// Keep or delete, and the limit.
-fn tick(
-    rt: &impl Print,
-    b: Lent,
-    text: &[u8],
-    store: &mut [u8],
-    lens: &mut [u16],
-    rows: &mut [u64],
-    log: &mut [u8],
-) -> Record {
-    let limit = line::index(text, 5);
-    let delete = line::which(text, 1, b"delete,") == 0;
-    let t = tick_public::tick(b.setup, b.rec, store, lens, rows, log, limit, delete);
-    out::say(rt, b" => ");
-    let a = t.answer;
-    shown::ticked(rt, a);
-    t.next
+// The part of a log up to the last byte that is not as all were.
+fn written(log: &[u8]) -> &[u8] {
+    match log.iter().rposition(|b| *b != BLANK) {
+        Some(last) => &log[..last + 1],
+        None => b"",
+    }
+}
+
+// How many bytes were written, and which; of more than 160 the first eight, and the check code of all.
+fn show_log(rt: &impl Print, log: &[u8]) {
+    say!(rt; " ; log: {} bytes ", log.len());
+    if log.len() <= 160 {
+        say!(rt; "{}", Hex(log));
+    } else {
+        say!(rt; "{} .. check code {}", Hex(&log[..8]), check_code::of(log));
+    }
 }
 
 // The record's count is written out.
 fn changes(rt: &impl Print, old: Record, new: Record) {
-    out::number(rt, b" ; count ", old.count as u64);
-    out::number(rt, b" to ", new.count as u64);
-    out::say(rt, b" ; changed:");
-    lent::unless(
-        rt,
-        b" clock, margin or mark",
-        lent::same_but_count(old, new),
-    );
+    say!(rt; " ; count {} to {} ; changed:", old.count, new.count);
+    let counted = Record {
+        count: new.count,
+        ..old
+    };
+    if new != counted {
+        say!(rt; " clock, margin or mark");
+    }
 }

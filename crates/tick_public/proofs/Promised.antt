@@ -1,8 +1,8 @@
 -- The public tick: judged, and then carried out.
+use Rattle.std.specs.Prelude.{Err}
 use Prim.Native.Nat.{ℕ}
 use mathlib.Core.List.{List}
-use mathlib.Core.Path.{◌≡◌, refl}
-use Rattle.record.specs.Refusals.{paper}
+use mathlib.Core.Path.{refl}
 use Rattle.record.specs.declared.Record.{Record}
 use Rattle.record.specs.declared.ScheduleRefusal.{ScheduleRefusal}
 use Rattle.rules.specs.Papers.{Outcome, Paper, after, through, says}
@@ -11,9 +11,7 @@ use Rattle.schedule.proofs.Promises.{judging_fine, writes}
 use Rattle.schedule.specs.Judge.{Judges, Sound, judging}
 use Rattle.schedule.specs.State.{State}
 use Rattle.schedule.specs.declared.Setup.{Setup}
-use Rattle.schedule.specs.declared.Verdict.{Verdict}
-use Rattle.schedule.specs.declared.Verdict.TheVariants as Ve
-use Rattle.tick.specs.Promise.{TickDoes, Ticks, left}
+use Rattle.tick.specs.Promise.{TickDoes, Ticks, left, tick_paper}
 use Rattle.tick.specs.Tick.{Logged}
 
 module _ (su : Setup) (r : Record) (st le ro lo : List ℕ) (call : State → Outcome Logged) where
@@ -24,9 +22,9 @@ module _ (su : Setup) (r : Record) (st le ro lo : List ℕ) (call : State → Ou
       rw (judging_fine su r st le ro call s)
       (record { tables = rw (judging_fine su r st le ro (λ x. left (call x)) s) at w; log = d.log })
 
-  pub ticks_refused : (v : Verdict) (e : ScheduleRefusal) → Judges su r st le ro v → v ≡ Ve.Refused e
-      → Ticks su r st le ro lo (judging su r st le ro call) (paper e) r st le ro lo
-  unfolding says after through
-  ticks_refused v e j q =
-      rw (judging_refused su r st le ro call v e j q)
+  pub ticks_refused : (e : ScheduleRefusal) → Judges su r st le ro (Err e)
+      → Ticks su r st le ro lo (judging su r st le ro call) (tick_paper (Err e)) r st le ro lo
+  unfolding says after through tick_paper
+  ticks_refused e j =
+      rw (judging_refused su r st le ro call e j)
       (record { tables = record { answer = refl; next = refl; store = refl; lens = refl; rows = refl }; log = refl })

@@ -18,21 +18,21 @@ ghost use Rattle.time.specs.Time.{
 };
 
 // Seconds from 1970, and nanoseconds: what callers pass and what the record holds, in range or not.
-#[derive(Clone, Copy)]
+#[derive(Clone, Copy, PartialEq, Eq)]
 pub struct UnixTime {
     pub secs: i64,
     pub nanos: u32,
 }
 
 // How long before its release a command must be there.
-#[derive(Clone, Copy)]
+#[derive(Clone, Copy, PartialEq, Eq)]
 pub struct Margin {
     pub secs: u64,
     pub nanos: u32,
 }
 
 // A time in range, its seconds counted from -2^42 and so unsigned: what tables hold and tests compare.
-#[derive(Clone, Copy)]
+#[derive(Clone, Copy, PartialEq, Eq, PartialOrd, Ord)]
 pub struct Moment {
     pub secs: u64,
     pub nanos: u32,
@@ -43,14 +43,7 @@ impl UnixTime {
     pub fn in_range(self) -> bool
         ensures { result ≡ in_range self }
     {
-        let s = self.secs;
-        if s < -4398046511104 {
-            return false;
-        }
-        if s > 4398046511104 {
-            return false;
-        }
-        self.nanos < 1000000000
+        (-4398046511104..=4398046511104).contains(&self.secs) && self.nanos < 1000000000
     }
 
     pub fn to_moment(self) -> Moment
@@ -59,7 +52,7 @@ impl UnixTime {
     {
         let secs = (self.secs + 4398046511104) as u64;
         Moment {
-            secs: secs,
+            secs,
             nanos: self.nanos,
         }
     }
@@ -70,11 +63,7 @@ impl Margin {
     pub fn in_range(self) -> bool
         ensures { result ≡ margin_in_range self }
     {
-        if self.secs <= 2147483648 {
-            self.nanos < 1000000000
-        } else {
-            false
-        }
+        self.secs <= 2147483648 && self.nanos < 1000000000
     }
 }
 
@@ -85,7 +74,7 @@ impl Moment {
     {
         let secs = (self.secs as i64) - 4398046511104;
         UnixTime {
-            secs: secs,
+            secs,
             nanos: self.nanos,
         }
     }
@@ -95,13 +84,7 @@ impl Moment {
         requires moment_in_range_2 { MomentInRange other }
         ensures { result ≡ ltb (instant_of self) (instant_of other) }
     {
-        if self.secs < other.secs {
-            return true;
-        }
-        if other.secs < self.secs {
-            return false;
-        }
-        self.nanos < other.nanos
+        self < other
     }
 }
 
@@ -115,10 +98,7 @@ pub fn earliest_release(clock: UnixTime, margin: Margin) -> Moment
     let secs = c.secs + margin.secs;
     let nanos = c.nanos + margin.nanos;
     if nanos < 1000000000 {
-        return Moment {
-            secs: secs,
-            nanos: nanos,
-        };
+        return Moment { secs, nanos };
     }
     Moment {
         secs: secs + 1,

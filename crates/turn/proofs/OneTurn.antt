@@ -1,5 +1,7 @@
 -- One turn: what the address finds, by the store's promise, and the store after it.
-use Prim.Native.Nat.{◌+◌, ◌-◌, ◌≤◌, ℕ}
+use Rattle.std.specs.Prelude.{Ok, Err}
+use Rattle.std.specs.Int.{from_bool}
+use Prim.Native.Nat.{◌+◌, ◌-◌, ℕ}
 use Rattle.release_log.specs.Log.{record_bytes}
 use Rattle.lookup.proofs.Finding.{found_held_at}
 use Rattle.rules.specs.Papers.{Paper, done, refused, says}
@@ -7,7 +9,6 @@ use Rattle.laid.proofs.Laid.{leaves_as, leaves_same}
 use Rattle.slots.proofs.Lists.{part_length, taken_out}
 use Rattle.store.specs.Calls.{delete_in}
 use Rattle.lookup.specs.Calls.{if_held, if_named, packet_in}
-use Rattle.layout.specs.Limits.{max_slot_size}
 use Rattle.slots.specs.Pools.{Found, Pool, find, held, no_pool, no_slot, vacant}
 use Rattle.store.specs.Promise.{Does}
 use Rattle.lookup.specs.Promise.{Finds, found_as}
@@ -23,14 +24,12 @@ use lib.ListN.{drop, length, take}
 use lib.Seq.{sets}
 use mathlib.Core.Bool.{Bool, false, true}
 use mathlib.Core.List.{List, [], ◌∷◌}
-use mathlib.Core.Path.{◌∙◌, ◌≡◌, ap, refl, subst, sym}
+use mathlib.Core.Path.{◌∙◌, ◌≡◌, ap, refl, sym}
 use native.Mathlib.Omega.{arith}
 use Rattle.layout.specs.Judge.{Sound as StoreSound}
 use Rattle.layout.specs.declared.Setup.{Setup}
 use Rattle.lookup.specs.declared.Span.{Span}
 use Rattle.slots.specs.declared.StoreRefusal.{StoreRefusal}
-use Rattle.lookup.specs.declared.Whereabouts.{Whereabouts}
-use Rattle.lookup.specs.declared.Whereabouts.TheVariants as W
 
 -- where the address check fails, a turn leaves the store as it is
 leave_missing : (del : Bool) (ps : List Pool) (a : ℕ) → Missing (find ps a) → ps ≡ leave del ps a
@@ -44,6 +43,11 @@ flag_missing on no_pool h = refl
 flag_missing on no_slot h = refl
 flag_missing on vacant h = refl
 flag_missing on (held n b) h = absurd h
+
+-- a mark as the number that the code writes for it
+flag_read : (on : Bool) → from_bool on ≡ flag_of on
+flag_read true = refl
+flag_read false = refl
 
 pub packet_missing : (x : Found) → Missing x → packet_of x ≡ []
 packet_missing no_pool h = refl
@@ -76,16 +80,15 @@ module _ (su : Setup) (st le : List ℕ) (a : ℕ) where
       (record { answer = refl; lists = leaves_as su st le _ _ st' le' (sym (deleted_is (view su st le) a)) l })
   leave_sound false st' le' s l = sound_of su st le (view su st le) st' le' (sized_of s) l (view_fits su st le s)
 
-  found_missing : (r : Whereabouts) (e : StoreRefusal) → Finds su st le a r → r ≡ W.Refused e → Missing (find (view su st le) a)
+  found_missing : (e : StoreRefusal) → Finds su st le a (Err e) → Missing (find (view su st le) a)
   unfolding found_as packet_in
-  found_missing r e f q =
-      missing_by a (paper e) (find (view su st le) a) (subst (λ (x : Whereabouts). Finds su st le a x) q f).same
+  found_missing e f = missing_by a (paper e) (find (view su st le) a) f.same
 
-  pub turned_away : (r : Whereabouts) (e : StoreRefusal) → Finds su st le a r → r ≡ W.Refused e
+  pub turned_away : (e : StoreRefusal) → Finds su st le a (Err e)
       → (del on : Bool) (id : ℕ) (log : List ℕ) (at : ℕ) (log' : List ℕ)
       → log' ≡ sets log at (record_bytes (record { flag = 2; id = id; addr = a; packet = [] })) → Turned su del on id a st le log at 17 st le log'
-  turned_away r e f q del on id log at log' w =
-      let h = found_missing r e f q in
+  turned_away e f del on id log at log' w =
+      let h = found_missing e f in
       let x = find (view su st le) a in
       record {
         wrote = w ∙ rw (flag_missing on x h, packet_missing x h);
@@ -93,21 +96,15 @@ module _ (su : Setup) (st le : List ℕ) (a : ℕ) where
         size = rw (packet_missing x h);
       }
 
-  pub long_away : (r : Whereabouts) (e : StoreRefusal) → Finds su st le a r → r ≡ W.Refused e → length (packet_of (find (view su st le) a)) ≡ 0
-  long_away r e f q = rw (packet_missing (find (view su st le) a) (found_missing r e f q))
+  pub long_away : (e : StoreRefusal) → Finds su st le a (Err e) → length (packet_of (find (view su st le) a)) ≡ 0
+  long_away e f = rw (packet_missing (find (view su st le) a) (found_missing e f))
 
-  module _ (r : Whereabouts) (s : Span) (f : Finds su st le a r) (q : r ≡ W.At s) where
-    at_span : Finds su st le a (W.At s)
-    at_span = subst (λ (x : Whereabouts). Finds su st le a x) q f
-
-    pub span_in : (s.from + s.len ≤ length st) × (s.len ≤ max_slot_size)
-    span_in = (at_span.inside.1, at_span.inside.2)
-
+  module _ (s : Span) (f : Finds su st le a (Ok s)) where
     packet_is : packet_of (find (view su st le) a) ≡ part s.from s.len st
-    packet_is = let h = found_held_at su st le a s at_span in rw h.1 h.2
+    packet_is = let h = found_held_at su st le a s f in rw h.1 h.2
 
     pub long_here : length (packet_of (find (view su st le) a)) ≡ s.len
-    long_here = ap length packet_is ∙ part_length s.from s.len st span_in.0
+    long_here = ap length packet_is ∙ part_length s.from s.len st f.inside.1
 
     -- the part of the store that the code lends
     lent_is : take (s.from + s.len - s.from) (drop s.from st) ≡ packet_of (find (view su st le) a)
@@ -116,11 +113,11 @@ module _ (su : Setup) (st le : List ℕ) (a : ℕ) where
     pub lent_long : length (take (s.from + s.len - s.from) (drop s.from st)) ≡ length (packet_of (find (view su st le) a))
     lent_long = ap length lent_is
 
-    pub turned_here : (del on : Bool) (id : ℕ) (log : List ℕ) (at : ℕ) (st' le' log' : List ℕ) (flag : ℕ) → flag ≡ flag_of on
+    pub turned_here : (del on : Bool) (id : ℕ) (log : List ℕ) (at : ℕ) (st' le' log' : List ℕ) (flag : ℕ) → flag ≡ from_bool on
         → log'
         ≡ sets log at (record_bytes
         (record { flag = flag; id = id; addr = a; packet = take (s.from + s.len - s.from) (drop s.from st) }))
         → Leaves su st le (leave del (view su st le) a) st' le' → Turned su del on id a st le log at (17 + s.len) st' le' log'
     turned_here del on id log at st' le' log' flag e w l =
-        let fl : flag_for on (find (view su st le) a) ≡ flag_of on = rw (found_held_at su st le a s at_span).1 in
-        record { wrote = w ∙ rw (e, fl, lent_is); lists = l; size = ap (λ (n : ℕ). 17 + n) (sym long_here) }
+        let fl : flag_for on (find (view su st le) a) ≡ flag_of on = rw (found_held_at su st le a s f).1 in
+        record { wrote = w ∙ rw (e ∙ flag_read on, fl, lent_is); lists = l; size = ap (λ (n : ℕ). 17 + n) (sym long_here) }

@@ -6,20 +6,9 @@ ghost use Rattle.layout.specs.Judge.{Sound as StoreSound};
 ghost use Rattle.slots.specs.Pools.{find};
 ghost use Rattle.slots.specs.View.{Leaves, view};
 ghost use Rattle.turn.specs.Turned.{Turned};
-ghost use Rattle.turn.specs.Turns.{flag_of, leave, packet_of};
+ghost use Rattle.turn.specs.Turns.{leave, packet_of};
 
-use lookup::Whereabouts;
-
-fn flag_of(on: bool) -> u8
-    ensures { result ≡ flag_of on }
-{
-    if on {
-        return 1;
-    }
-    0
-}
-
-// In delete mode, deletes the packet of an address.
+// In delete mode, deletes the packet of an address. Whether there was one, the caller has seen.
 fn drop_packet(setup: layout::Setup, store: &mut [u8], lens: &mut [u16], addr: u64, delete: bool)
     requires { StoreSound setup store.old lens.old }
     ensures { Leaves setup store.old lens.old
@@ -27,7 +16,7 @@ fn drop_packet(setup: layout::Setup, store: &mut [u8], lens: &mut [u16], addr: u
         store.new lens.new }
 {
     if delete {
-        store::judged::delete(setup, store, lens, addr);
+        let _ = store::judged::delete(setup, store, lens, addr);
     }
 }
 
@@ -48,17 +37,16 @@ pub fn hand_one(
     ensures { Turned setup delete on id addr store.old lens.old log.old
         at result store.new lens.new log.new }
 {
-    let w = lookup::find(setup, store, lens, addr);
-    match w {
-        Whereabouts::Refused(_) => {
+    match lookup::find(setup, store, lens, addr) {
+        Err(_) => {
             release_log::put_record(log, at, 2, id, addr, &store[0..0]);
             17
         }
-        Whereabouts::At(s) => {
+        Ok(s) => {
             let from = s.from;
             let n = s.len;
             let end = from + n;
-            release_log::put_record(log, at, flag_of(on), id, addr, &store[from..end]);
+            release_log::put_record(log, at, u8::from(on), id, addr, &store[from..end]);
             drop_packet(setup, store, lens, addr, delete);
             17 + n
         }

@@ -9,8 +9,6 @@ ghost use Rattle.rows.specs.Entries.{unpack};
 ghost use Rattle.rows.specs.Order.{Held};
 ghost use Rattle.turns.specs.Released.{Released, first_total};
 
-use lookup::Whereabouts;
-
 // The log that the first entry's record needs alone.
 pub fn first_total(
     setup: layout::Setup,
@@ -27,10 +25,9 @@ pub fn first_total(
         return 8;
     }
     let info = rows::tc_info(rows, count, 0);
-    let w = lookup::find(setup, store, lens, info.addr);
-    match w {
-        Whereabouts::Refused(_) => 29,
-        Whereabouts::At(s) => 29 + s.len,
+    match lookup::find(setup, store, lens, info.addr) {
+        Err(_) => 29,
+        Ok(s) => 29 + s.len,
     }
 }
 

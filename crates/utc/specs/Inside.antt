@@ -1,17 +1,15 @@
--- A day split into whole years or months and the days left.
+-- The year or month in which a day falls.
 -- A reader need not believe this file: contracts below the public calls cite it, no public call's promise does.
-use Rattle.std.specs.Prelude.{◌+◌, ◌<◌, ◌≤◌, ℕ, ◌≡◌}
-use Rattle.utc.specs.Calendar.{month_days, months_days, year_days, years_days}
-use Rattle.utc.specs.declared.Split.{Split}
+use Rattle.std.specs.List.{range_with_len}
+use Rattle.std.specs.Prelude.{◌+◌, ◌-◌, ◌<◌, ◌≤◌, ℕ, map, sum, ◌≡◌}
+use Rattle.utc.specs.declared.Within.{Within}
 
--- whole years from 1970 on, and the days left of the next
-pub record Years (day : ℕ) (s : Split) : Type 0 where
-  pub sum : years_days s.whole + s.left ≡ day
-  pub less : s.left < year_days (1970 + s.whole)
-  pub few : s.whole ≤ day
+-- the days of n years or months from `first` on, where number k has `days_of k`
+abbrev pub days_from : (ℕ → ℕ) → ℕ → ℕ → ℕ
+days_from days_of first n = sum (map days_of (range_with_len first n))
 
--- whole months of a year, and the days left of the next
-pub record Months (y day : ℕ) (s : Split) : Type 0 where
-  pub sum : months_days y s.whole + s.left ≡ day
-  pub less : s.left < month_days y (s.whole + 1)
-  pub few : s.whole < 12
+-- whole ones from `first` on, and what is left of the next
+pub record Falls (days_of : ℕ → ℕ) (days first : ℕ) (w : Within) : Type 0 where
+  pub sum : days_from days_of first (w.at - first) + w.left ≡ days
+  pub less : w.left < days_of w.at
+  pub from : first ≤ w.at

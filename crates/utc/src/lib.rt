@@ -1,9 +1,9 @@
 // Dates in UTC: the date of a day counted from 1 January 1970, and the day of a date.
 #![tactic(auto)]
 
-ghost use Rattle.std.specs.Prelude.{◌≡◌, ◌*◌, ◌<◌, ◌≤◌};
-ghost use Rattle.utc.specs.Calendar.{DateOf, DayOf, leap as isLeap, month_days, months_days, year_days, years_days};
-ghost use Rattle.utc.specs.Inside.{Months, Years};
+ghost use Rattle.std.specs.Prelude.{◌≡◌, ◌+◌, ◌<◌, ◌≤◌, ◌^◌, ℕ};
+ghost use Rattle.utc.specs.Calendar.{DateOf, DayOf, leap as isLeap, month_days, year_days};
+ghost use Rattle.utc.specs.Inside.{Falls};
 
 #[derive(Clone, Copy)]
 pub struct Date {
@@ -12,96 +12,57 @@ pub struct Date {
     pub day: u64,
 }
 
-// Whole years or months, and the days left.
+// The year or month in which a day falls, and the days of it before that day.
 #[derive(Clone, Copy)]
-pub struct Split {
-    pub whole: u64,
-    pub left: u64,
+struct Within {
+    at: u64,
+    left: u64,
 }
 
+#[tactic(auto, unfolding(crate::specs::Calendar::leap))]
 fn leap(y: u64) -> bool
     ensures { result ≡ isLeap y }
 {
-    if y % 400 == 0 {
-        return true;
-    }
-    if y % 100 == 0 {
-        return false;
-    }
-    y % 4 == 0
+    y % 400 == 0 || (y % 100 != 0 && y % 4 == 0)
 }
 
+#[tactic(auto, unfolding(crate::specs::Calendar::year_days))]
 fn year_days(y: u64) -> u64
     ensures { result ≡ year_days y }
 {
     if leap(y) { 366 } else { 365 }
 }
 
+#[tactic(auto, unfolding(crate::specs::Calendar::month_days))]
 fn month_days(y: u64, m: u64) -> u64
     ensures { result ≡ month_days y m }
 {
-    if m == 2 {
-        return february(y);
-    }
-    if m == 4 {
-        return 30;
-    }
-    if m == 6 {
-        return 30;
-    }
-    if m == 9 {
-        return 30;
-    }
-    if m == 11 {
-        return 30;
-    }
-    31
-}
-
-fn february(y: u64) -> u64
-    ensures { result ≡ month_days y 2 }
-{
-    if leap(y) { 29 } else { 28 }
-}
-
-fn years(day: u64) -> Split
-    requires { day < 4294967296 }
-    ensures { Years day result }
-{
-    let mut n: u64 = 0;
-    let mut left = day;
-    let mut next = year_days(1970);
-    while left >= next {
-        left -= next;
-        n += 1;
-        next = year_days(1970 + n);
-    }
-    Split {
-        whole: n,
-        left: left,
+    match m {
+        2 if leap(y) => 29,
+        2 => 28,
+        4 | 6 | 9 | 11 => 30,
+        _ => 31,
     }
 }
 
-fn months(y: u64, day: u64) -> Split
-    requires { day < year_days y }
-    ensures { Months y day result }
+// Where day `days` falls, counted from the start of year or month `first`; number k has `length(k)` days.
+fn place<F: Fn(u64) -> u64>(days: u64, first: u64, length: F) -> Within
+    ghost days_of: { ℕ → ℕ }
+    requires fits { first + days < 2 ^ 64 }
+    requires callable { (k : ℕ) → k ≤ first + days → F.pre length k }
+    requires gives { (k r : ℕ) → F.post length k r → r ≡ days_of k }
+    requires some { (k : ℕ) → 0 < days_of k }
+    ensures { Falls days_of days first result }
 {
-    let mut n: u64 = 0;
-    let mut left = day;
-    while n < 11 {
-        let next = month_days(y, n + 1);
+    let mut at = first;
+    let mut left = days;
+    loop {
+        let next = length(at);
         if left < next {
-            return Split {
-                whole: n,
-                left: left,
-            };
+            return Within { at, left };
         }
         left -= next;
-        n += 1;
-    }
-    Split {
-        whole: n,
-        left: left,
+        at += 1;
     }
 }
 
@@ -109,42 +70,13 @@ fn months(y: u64, day: u64) -> Split
 pub fn date_of(day: u32) -> Date
     ensures { DateOf day result }
 {
-    let y = years(day as u64);
-    let year = 1970 + y.whole;
-    let m = months(year, y.left);
+    let Within { at: year, left } = place(u64::from(day), 1970, year_days);
+    let Within { at: month, left } = place(left, 1, |m| month_days(year, m));
     Date {
-        year: year,
-        month: 1 + m.whole,
-        day: 1 + m.left,
+        year,
+        month,
+        day: 1 + left,
     }
-}
-
-fn years_before(n: u64) -> u64
-    requires { n ≤ 8029 }
-    ensures { (result ≡ years_days n) × (result ≤ 366 * n) }
-{
-    let mut sum: u64 = 0;
-    let mut i: u64 = 0;
-    while i < n {
-        let next = year_days(1970 + i);
-        sum += next;
-        i += 1;
-    }
-    sum
-}
-
-fn months_before(y: u64, n: u64) -> u64
-    requires { n ≤ 11 }
-    ensures { (result ≡ months_days y n) × (result ≤ 31 * n) }
-{
-    let mut sum: u64 = 0;
-    let mut i: u64 = 0;
-    while i < n {
-        let next = month_days(y, i + 1);
-        sum += next;
-        i += 1;
-    }
-    sum
 }
 
 // The day of a date; 0 for a year not from 1970 to 9999, a month not from 1 to 12 or a day not from 1 to 31.
@@ -152,25 +84,15 @@ fn months_before(y: u64, n: u64) -> u64
 pub fn day_of(d: Date) -> u64
     ensures { DayOf d result }
 {
-    if d.year < 1970 {
+    let Date {
+        year: year @ 1970..=9999,
+        month: month @ 1..=12,
+        day: day @ 1..=31,
+    } = d
+    else {
         return 0;
-    }
-    if d.year > 9999 {
-        return 0;
-    }
-    if d.month < 1 {
-        return 0;
-    }
-    if d.month > 12 {
-        return 0;
-    }
-    if d.day < 1 {
-        return 0;
-    }
-    if d.day > 31 {
-        return 0;
-    }
-    let y = years_before(d.year - 1970);
-    let m = months_before(d.year, d.month - 1);
-    y + m + (d.day - 1)
+    };
+    let years: u64 = (1970..year).map(year_days).sum();
+    let months: u64 = (1..month).map(|m| month_days(year, m)).sum();
+    years + months + (day - 1)
 }

@@ -7,7 +7,8 @@ mod releases;
 mod stamps;
 mod times;
 
-use text::{input, line, out};
+use text::line::{Line, Lines};
+use text::{input, out};
 
 fn main(rt: HostRuntime) {
     let mut text = input::large_buffer();
@@ -16,63 +17,58 @@ fn main(rt: HostRuntime) {
 }
 
 fn all(rt: &impl Print, text: &[u8]) {
-    let mut at: usize = 0;
-    while at < text.len() {
-        let end = line::end(text, at, b'\n');
-        let next = line::next(text, end);
-        out::say(rt, &text[at..end]);
-        one(rt, &text[at..end]);
+    for line in Lines(text) {
+        out::say(rt, line.0);
+        if let Some(asked) = Asked::by(line) {
+            out::say(rt, b":");
+            one(rt, asked, line);
+        }
         out::say(rt, b"\n");
-        at = next;
     }
 }
 
-// What a line asks, by its first word. A line of no such word is a remark.
-fn one(rt: &impl Print, text: &[u8]) {
-    let k = line::which(
-        text,
-        0,
-        b"check number packet wrapped stamp first time margin clock",
-    );
-    if k < 9 {
-        out::say(rt, b":");
-    }
-    if k < 4 {
-        bytes(rt, text, k);
-    } else {
-        moments(rt, text, k);
+// What a line asks for.
+#[derive(Clone, Copy, PartialEq, Eq)]
+enum Asked {
+    Check,
+    Number,
+    Packet,
+    Wrapped,
+    Stamp,
+    First,
+    Time,
+    Margin,
+    Clock,
+}
+
+impl Asked {
+    // By the line's first word. A line of no such word is a remark.
+    fn by(line: Line) -> Option<Asked> {
+        match line.word(0) {
+            b"check" => Some(Asked::Check),
+            b"number" => Some(Asked::Number),
+            b"packet" => Some(Asked::Packet),
+            b"wrapped" => Some(Asked::Wrapped),
+            b"stamp" => Some(Asked::Stamp),
+            b"first" => Some(Asked::First),
+            b"time" => Some(Asked::Time),
+            b"margin" => Some(Asked::Margin),
+            b"clock" => Some(Asked::Clock),
+            _ => None,
+        }
     }
 }
 
-fn bytes(rt: &impl Print, text: &[u8], k: usize) {
-    if k == 0 {
-        codes::code(rt, text);
-    }
-    if k == 1 {
-        codes::number(rt, text);
-    }
-    if k == 2 {
-        packets::packet(rt, text);
-    }
-    if k == 3 {
-        packets::wrapped(rt, text);
-    }
-}
-
-fn moments(rt: &impl Print, text: &[u8], k: usize) {
-    if k == 4 {
-        stamps::stamp(rt, text);
-    }
-    if k == 5 {
-        stamps::every_first_byte(rt);
-    }
-    if k == 6 {
-        times::time(rt, text);
-    }
-    if k == 7 {
-        times::margin(rt, text);
-    }
-    if k == 8 {
-        releases::release(rt, text);
+fn one(rt: &impl Print, asked: Asked, line: Line) {
+    match asked {
+        Asked::Check => codes::code(rt, line),
+        Asked::Number => codes::number(rt, line),
+        Asked::Packet => packets::packet(rt, line),
+        Asked::Wrapped => packets::wrapped(rt, line),
+        Asked::Stamp => stamps::stamp(rt, line),
+        Asked::First => stamps::every_first_byte(rt),
+        Asked::Time => times::time(rt, line),
+        Asked::Margin => times::margin(rt, line),
+        Asked::Clock => releases::release(rt, line),
     }
 }

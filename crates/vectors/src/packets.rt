@@ -2,19 +2,18 @@
 ghost use Rattle.std.specs.Prelude.{◌≤◌, length};
 
 use crate::times;
-use packet::{Fault, Header, Reading};
-use stamp::Stamp;
-use text::{line, out};
+use packet::{Fault, Header};
+use text::line::Line;
+use text::out;
 
 // The bytes from word 1 on; or so many of the longest packet's.
-pub fn packet(rt: &impl Print, text: &[u8]) {
-    if line::which(text, 1, b"of") == 0 {
-        longest(rt, line::part(text, 2, 65543));
+pub fn packet(rt: &impl Print, line: Line) {
+    if line.word(1) == b"of".as_slice() {
+        longest(rt, line.index(2).min(65543));
         return;
     }
-    let mut bytes = [0u8; 64];
-    let n = line::bytes(text, 1, &mut bytes);
-    answer(rt, &bytes[..n]);
+    let mut room = [0; 64];
+    answer(rt, line.bytes(1, &mut room));
 }
 
 // P's header with the length field at its most, zeros as user data, the check code, and a byte behind it.
@@ -37,10 +36,9 @@ fn make(space: &mut [u8])
 
 // What the reader says of any bytes, and the part that it hands back as user data.
 fn answer(rt: &impl Print, bytes: &[u8]) {
-    let reading = packet::read(bytes);
-    match reading {
-        Reading::Packet(h) => header(rt, h),
-        Reading::Unreadable(f) => unreadable(rt, f),
+    match packet::read(bytes) {
+        Ok(h) => header(rt, h),
+        Err(f) => unreadable(rt, f),
     }
     out::say(rt, b", user data ");
     part(rt, packet::user_data(bytes));
@@ -78,32 +76,23 @@ fn part(rt: &impl Print, s: &[u8]) {
 }
 
 // The readers one after the other: a packet, the stamp in its user data, and the packet behind the stamp.
-pub fn wrapped(rt: &impl Print, text: &[u8]) {
-    let mut bytes = [0u8; 64];
-    let n = line::bytes(text, 2, &mut bytes);
-    outer(rt, &bytes[..n]);
-}
-
-fn outer(rt: &impl Print, bytes: &[u8]) {
+pub fn wrapped(rt: &impl Print, line: Line) {
+    let mut room = [0; 64];
+    let bytes = line.bytes(2, &mut room);
     match packet::read(bytes) {
-        Reading::Packet(h) => opened(rt, h.user_data(bytes)),
-        Reading::Unreadable(f) => unreadable(rt, f),
+        Ok(h) => opened(rt, h.user_data(bytes)),
+        Err(f) => unreadable(rt, f),
     }
 }
 
 fn opened(rt: &impl Print, data: &[u8]) {
-    match stamp::read(data) {
-        Stamp::At(t, n) => {
-            times::instant(rt, b" ", t);
-            out::say(rt, b",");
-            behind(rt, data, n);
-        }
-        Stamp::Refused => out::say(rt, b" stamp refused"),
-    }
-}
-
-fn behind(rt: &impl Print, data: &[u8], n: usize) {
-    if n <= data.len() {
-        answer(rt, &data[n..]);
+    let Some(s) = stamp::read(data) else {
+        out::say(rt, b" stamp refused");
+        return;
+    };
+    times::instant(rt, b" ", s.time);
+    out::say(rt, b",");
+    if s.len <= data.len() {
+        answer(rt, &data[s.len..]);
     }
 }

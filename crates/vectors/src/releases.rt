@@ -2,14 +2,15 @@
 ghost use Rattle.time.specs.Time.{InRange, MarginInRange};
 
 use crate::times;
-use text::{line, out};
+use text::line::Line;
+use text::out;
 use time::{Margin, Moment, UnixTime};
 
 // Clock, margin and release. What is out of range is not tested further.
-pub fn release(rt: &impl Print, text: &[u8]) {
-    let clock = line::time_of(text, 1, 3);
-    let margin = line::margin_of(text, 6, 8);
-    let release = line::time_of(text, 11, 13);
+pub fn release(rt: &impl Print, line: Line) {
+    let clock = line.time_of(1, 3);
+    let margin = line.margin_of(6, 8);
+    let release = line.time_of(11, 13);
     judge(rt, clock, margin, release);
 }
 

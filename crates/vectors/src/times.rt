@@ -1,7 +1,8 @@
 // Times and margins at the ends of their ranges (document 01, "Sizes"), and the order of two times.
 ghost use Rattle.time.specs.Time.{InRange};
 
-use text::{line, out};
+use text::line::Line;
+use text::out;
 use time::UnixTime;
 
 pub fn instant(rt: &impl Print, text: &[u8], t: UnixTime) {
@@ -17,11 +18,11 @@ pub fn span(rt: &impl Print, text: &[u8], secs: u64, nanos: u32) {
 }
 
 // One time; or two, the first against the second.
-pub fn time(rt: &impl Print, text: &[u8]) {
-    let t = line::time_of(text, 1, 3);
+pub fn time(rt: &impl Print, line: Line) {
+    let t = line.time_of(1, 3);
     if t.in_range() {
-        if line::which(text, 5, b"against") == 0 {
-            against(rt, t, line::time_of(text, 6, 8));
+        if line.word(5) == b"against".as_slice() {
+            against(rt, t, line.time_of(6, 8));
         } else {
             there_and_back(rt, t);
         }
@@ -58,8 +59,8 @@ fn ordered(rt: &impl Print, a: UnixTime, b: UnixTime)
     }
 }
 
-pub fn margin(rt: &impl Print, text: &[u8]) {
-    let m = line::margin_of(text, 1, 3);
+pub fn margin(rt: &impl Print, line: Line) {
+    let m = line.margin_of(1, 3);
     if m.in_range() {
         out::say(rt, b" in range");
     } else {

@@ -1,4 +1,5 @@
 -- A window that is given: its ends judged, and what opening it says of every call with it.
+use Rattle.std.specs.Prelude.{Result, Ok, Err}
 use Prim.Native.Nat.{ℕ, ◌<◌, ◌≤◌}
 use borrow.Author.Tests.{le-leb, le-ltb, lt-leb, lt-ltb}
 use lib.Dec.{leb, ltb}
@@ -22,8 +23,6 @@ use Rattle.windows.specs.Inside.{Opens, opened_as}
 use Rattle.windows.specs.Windowing.{ends_in_range, forward, window_of, windowed}
 use Rattle.windows.specs.declared.TimeWindow.{TimeWindow}
 use Rattle.windows.specs.declared.TimeWindow.TheVariants.{From, FromTo, To}
-use Rattle.windows.specs.declared.Opened.{Opened}
-use Rattle.windows.specs.declared.Opened.TheVariants as O
 
 module _ (w : TimeWindow) where
   -- an end that is in range, by the window's case
@@ -42,15 +41,15 @@ module _ (w : TimeWindow) where
   to_judged t e h = time_judged t (rw e at h)
 
   -- opening
-  pub open_bad : ends_in_range w ≡ false → Opens w (O.Refused BadTime)
+  pub open_bad : ends_in_range w ≡ false → Opens w (Err BadTime)
   unfolding opened_as windowed unless paper
   open_bad e = record { same = rw e; ends = tt }
 
-  pub open_reversed : ends_in_range w ≡ true → forward w ≡ false → Opens w (O.Refused ReversedWindow)
+  pub open_reversed : ends_in_range w ≡ true → forward w ≡ false → Opens w (Err ReversedWindow)
   unfolding opened_as windowed unless paper
   open_reversed e f = record { same = rw (e, f); ends = tt }
 
-  pub open_at : (x : MomentWindow) → ends_in_range w ≡ true → forward w ≡ true → x ≡ window_of w → EndsInRange x → Opens w (O.At x)
+  pub open_at : (x : MomentWindow) → ends_in_range w ≡ true → forward w ≡ true → x ≡ window_of w → EndsInRange x → Opens w (Ok x)
   unfolding opened_as windowed unless
   open_at x e f q i = record { same = rw (e, f, q); ends = i }
 
@@ -74,14 +73,14 @@ windowed_then w call = go (ends_in_range w) (forward w)
     go true false = refl
     go true true = refl
 
-module _ {A : Type 0} (w : TimeWindow) (call : MomentWindow → Outcome A) (r : Opened) (h : Opens w r) where
-  pub opened_at : (x : MomentWindow) → r ≡ O.At x → (windowed w call ≡ call x) × EndsInRange x
+module _ {A : Type 0} (w : TimeWindow) (call : MomentWindow → Outcome A) (r : Result MomentWindow ScheduleRefusal) (h : Opens w r) where
+  pub opened_at : (x : MomentWindow) → r ≡ Ok x → (windowed w call ≡ call x) × EndsInRange x
   unfolding opened_as then
   opened_at x q =
       let g = rw q at h in
       (windowed_then w call ∙ ap (λ (o : Outcome MomentWindow). then o call) (sym g.same), g.ends)
 
-  pub opened_refused : (e : ScheduleRefusal) → r ≡ O.Refused e → windowed w call ≡ refused (paper e)
+  pub opened_refused : (e : ScheduleRefusal) → r ≡ Err e → windowed w call ≡ refused (paper e)
   unfolding opened_as then
   opened_refused e q =
       let g = rw q at h in

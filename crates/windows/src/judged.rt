@@ -7,15 +7,18 @@ ghost use Rattle.rows.specs.Order.{Sound as TableSound};
 ghost use Rattle.windows.specs.Answers.{retrieved_paper};
 ghost use Rattle.windows.specs.Windowing.{retrieve_in};
 
-use crate::{Opened, Retrieved, TimeWindow, open};
+use crate::{TimeWindow, open};
+use record::ScheduleRefusal;
+use selection::Part;
 
-pub fn retrieve_by_time_filter(rows: &[u64], count: usize, w: TimeWindow) -> Retrieved
+pub fn retrieve_by_time_filter(
+    rows: &[u64],
+    count: usize,
+    w: TimeWindow,
+) -> Result<Part, ScheduleRefusal>
     requires { TableSound rows.now count }
     ensures { (s : State) → s.entries ≡ unpack count rows.now → retrieved_paper result ≡ says (retrieve_in w s) }
 {
-    let o = open(w);
-    match o {
-        Opened::Refused(e) => Retrieved::Refused(e),
-        Opened::At(x) => Retrieved::Rows(selection::window::rows_in(rows, count, x)),
-    }
+    let x = open(w)?;
+    Ok(selection::window::rows_in(rows, count, x))
 }

@@ -22,31 +22,16 @@ pub enum TimeWindow {
     To(UnixTime),
 }
 
-#[derive(Clone, Copy)]
-pub enum Retrieved {
-    Rows(Part),
-    Refused(ScheduleRefusal),
-}
-
-// A window with its ends judged.
-#[derive(Clone, Copy)]
-pub enum Opened {
-    At(MomentWindow),
-    Refused(ScheduleRefusal),
-}
-
-pub fn open(w: TimeWindow) -> Opened
+pub fn open(w: TimeWindow) -> Result<MomentWindow, ScheduleRefusal>
     ensures { Opens w result }
 {
-    let ok = ends_in_range(w);
-    if !ok {
-        return Opened::Refused(ScheduleRefusal::BadTime);
+    if !ends_in_range(w) {
+        return Err(ScheduleRefusal::BadTime);
     }
-    let onward = forward(w);
-    if !onward {
-        return Opened::Refused(ScheduleRefusal::ReversedWindow);
+    if !forward(w) {
+        return Err(ScheduleRefusal::ReversedWindow);
     }
-    Opened::At(moments(w))
+    Ok(moments(w))
 }
 
 fn ends_in_range(w: TimeWindow) -> bool
@@ -54,7 +39,7 @@ fn ends_in_range(w: TimeWindow) -> bool
 {
     match w {
         TimeWindow::All => true,
-        TimeWindow::FromTo(f, t) => both(f.in_range(), t.in_range()),
+        TimeWindow::FromTo(f, t) => f.in_range() && t.in_range(),
         TimeWindow::From(f) => f.in_range(),
         TimeWindow::To(t) => t.in_range(),
     }
@@ -89,12 +74,5 @@ fn not_after(f: UnixTime, t: UnixTime) -> bool
     requires in_range_2 { InRange t }
     ensures { result ≡ leb (instant f) (instant t) }
 {
-    let back = t.to_moment().is_before(f.to_moment());
-    !back
-}
-
-fn both(a: bool, b: bool) -> bool
-    ensures { result ≡ (a && b) }
-{
-    if a { b } else { false }
+    !t.to_moment().is_before(f.to_moment())
 }

@@ -11,18 +11,10 @@ pub fn read(bytes: &[u8], at: usize, width: usize) -> u64
     ensures { Reads width at bytes.now result }
 {
     let mut v: u64 = 0;
-    let mut k: usize = 0;
-    while k < width {
-        v = v * 256 + wide(bytes[at + k]);
-        k += 1;
+    for b in &bytes[at..at + width] {
+        v = v * 256 + u64::from(*b);
     }
     v
-}
-
-fn wide(b: u8) -> u64
-    ensures { result ≡ b }
-{
-    b as u64
 }
 
 // The `width` low bytes of `v`, from `at` on; all other bytes stay. One loop for every width.
@@ -30,11 +22,9 @@ pub fn write(dst: &mut [u8], at: usize, width: usize, v: u64)
     requires { at + width ≤ length dst.old }
     ensures { dst.new ≡ sets dst.old at (bytes_of width v) }
 {
-    let mut left = width;
     let mut x = v;
-    while 0 < left {
-        left = left - 1;
-        dst[at + left] = (x % 256) as u8;
-        x = x / 256;
+    for k in (0..width).rev() {
+        dst[at + k] = (x % 256) as u8;
+        x /= 256;
     }
 }

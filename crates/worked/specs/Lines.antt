@@ -1,5 +1,7 @@
 -- Document 01's worked lines marked T, in its order, as one table, and one statement over it: each comes of the definitions.
-use Rattle.std.specs.Prelude.{◌-◌, ℕ, length, replicate, Bool, false, true, List, [], ◌++◌, ◌∷◌, ◌≡◌, refl, negsuc, pos}
+use Rattle.std.specs.Prelude.{Option, Some, None, Result, Ok, Err, ◌-◌, ℕ, length, replicate, Bool, false, true, List, [], ◌++◌, ◌∷◌, ◌≡◌, refl, negsuc, pos}
+use Rattle.packet.specs.declared.Header.{Header}
+use Rattle.packet.specs.declared.Fault.{Fault}
 use Rattle.check_code.specs.CheckCode.{check_code, feed, shift}
 use Rattle.release_log.specs.Log.{log_bytes, offsets, record_bytes, records, total}
 use Rattle.packet.specs.Packet.{id_of, id_word, read_of}
@@ -16,17 +18,14 @@ use Rattle.tick.specs.Tick.{first_lacks, handed_out, tick_in}
 use Rattle.turn.specs.Turns.{handout, leave}
 use Rattle.time.specs.Time.{earliest, far, in_time_margin, instant}
 use Rattle.words.specs.Words.{bytes_of, number}
-use Rattle.packet.specs.declared.Reading.{Reading}
-use Rattle.packet.specs.declared.Reading.TheVariants.{Packet, Unreadable}
 use Rattle.stamp.specs.declared.Stamp.{Stamp}
-use Rattle.stamp.specs.declared.Stamp.TheVariants.{At, Refused}
 use Rattle.time.specs.declared.Margin.{Margin}
 use Rattle.time.specs.declared.UnixTime.{UnixTime}
 
 -- a line: what is given, and what document 01 says comes of it
 pub data Line : Type 0 where
   -- a stamp's bytes: the time and the stamp's length, or refused
-  stamp : List ℕ → Stamp → Line
+  stamp : List ℕ → Option Stamp → Line
   -- clock, margin and release: whether 13 is given
   early : UnixTime → Margin → UnixTime → Bool → Line
   -- clock and margin: the earliest release
@@ -49,14 +48,18 @@ at s n = record { secs = pos s; nanos = n }
 abbrev before : ℕ → UnixTime
 before n = record { secs = negsuc n; nanos = 0 }
 
+-- a stamp that was read: its time and its length
+abbrev read_as : UnixTime → ℕ → Option Stamp
+read_as t n = Some (record { time = t; len = n })
+
 abbrev margin : ℕ → ℕ → Margin
 margin s n = record { secs = s; nanos = n }
 
 -- the entry of a packet at address 1, due at 0 s, by what the packet's bytes are read as: its request ID is the header's. What is no
 -- packet has no entry
-abbrev entry_read : Reading → List Entry
-entry_read (Packet h) = record { secs = far; nanos = 0; id = id_word (id_of h); addr = 1 } ∷ []
-entry_read (Unreadable f) = []
+abbrev entry_read : Result Header Fault → List Entry
+entry_read (Ok h) = record { secs = far; nanos = 0; id = id_word (id_of h); addr = 1 } ∷ []
+entry_read (Err f) = []
 
 -- a packet of at most 16 bytes in slot 1 of 2, its entry alone due; enabled, clock 0
 abbrev holding : List ℕ → State
@@ -93,12 +96,12 @@ packet_p = head_of_p ++ bytes_of 2 (check_code head_of_p)
 abbrev pub lines : List Line
 lines =
     -- day 4,383, ms 0: 0 s. Day 0: -378,691,200 s. Day 4,383, ms 1,500: 1 s 500,000,000 ns
-    stamp (0x40 ∷ 0x11 ∷ 0x1F ∷ 0 ∷ 0 ∷ 0 ∷ 0 ∷ []) (At (at 0 0) 7) ∷
-    stamp (0x40 ∷ 0 ∷ 0 ∷ 0 ∷ 0 ∷ 0 ∷ 0 ∷ []) (At (before 378691199) 7) ∷
-    stamp (0x40 ∷ 0x11 ∷ 0x1F ∷ 0 ∷ 0 ∷ 0x05 ∷ 0xDC ∷ []) (At (at 1 500000000) 7) ∷
+    stamp (0x40 ∷ 0x11 ∷ 0x1F ∷ 0 ∷ 0 ∷ 0 ∷ 0 ∷ []) (read_as (at 0 0) 7) ∷
+    stamp (0x40 ∷ 0 ∷ 0 ∷ 0 ∷ 0 ∷ 0 ∷ 0 ∷ []) (read_as (before 378691199) 7) ∷
+    stamp (0x40 ∷ 0x11 ∷ 0x1F ∷ 0 ∷ 0 ∷ 0x05 ∷ 0xDC ∷ []) (read_as (at 1 500000000) 7) ∷
     -- 24-bit day 16,777,215, ms 0: 1,449,172,684,800 s. ms 86,400,000: refused
-    stamp (0x44 ∷ 0xFF ∷ 0xFF ∷ 0xFF ∷ 0 ∷ 0 ∷ 0 ∷ 0 ∷ []) (At (at 1449172684800 0) 8) ∷
-    stamp (0x40 ∷ 0x11 ∷ 0x1F ∷ 0x05 ∷ 0x26 ∷ 0x5C ∷ 0 ∷ []) Refused ∷
+    stamp (0x44 ∷ 0xFF ∷ 0xFF ∷ 0xFF ∷ 0 ∷ 0 ∷ 0 ∷ 0 ∷ []) (read_as (at 1449172684800 0) 8) ∷
+    stamp (0x40 ∷ 0x11 ∷ 0x1F ∷ 0x05 ∷ 0x26 ∷ 0x5C ∷ 0 ∷ []) None ∷
     -- clock 100 s, margin 5 s: 105 s accepted; 104 s 999,999,999 ns: 13
     early (at 100 0) (margin 5 0) (at 105 0) false ∷
     early (at 100 0) (margin 5 0) (at 104 999999999) true ∷

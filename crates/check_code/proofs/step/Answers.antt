@@ -1,6 +1,6 @@
--- `check_code::step` meets its contract: the rule of the table at one entry.
+-- `check_code::step` meets its contract: the rule of the table at one number.
 use Rattle.check_code.proofs.Lookup.{next}
 use Rattle.check_code.proofs.step.Goals as goal
 
 pub returns : goal.returns
-returns c = next _ _ _ _ c.requires c.index-k.ensures.0 c.index-k.ensures.1
+returns c = next _ _ _ c.entry.ensures

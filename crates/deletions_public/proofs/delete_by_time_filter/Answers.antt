@@ -1,20 +1,18 @@
 -- `deletions_public::delete_by_time_filter` meets its contract.
+use Rattle.std.proofs.lemmas.Result.{err_from_is_err_and}
 use Rattle.deletions.specs.Answers.{cleared_paper}
 use Rattle.schedule.proofs.Judging.{sound_by}
 use Rattle.schedule.proofs.Promises.{writes, writes_refused}
 use Rattle.deletions_public.proofs.delete_by_time_filter.Goals as goal
 
 pub delete_by_time_filter-requires : goal.delete_by_time_filter-requires
-delete_by_time_filter-requires c =
-    sound_by _ _ _ _ _ _ c.judge-j.ensures c.in-Fine.is
+delete_by_time_filter-requires c = sound_by _ _ _ _ _ c.in_ok-judge.ensures
 
-pub returns-in-Refused : goal.returns-in-Refused
+pub returns-in_err-judge : goal.returns-in_err-judge
 unfolding cleared_paper
-returns-in-Refused c =
-    writes_refused _ _ _ _ _ _ _ _ c.judge-j.ensures c.in-Refused.is
+returns-in_err-judge c =
+    let p = err_from_is_err_and c.from_residual.result c.from_residual.ensures.1 in
+    rw (p.1, p.2) (writes_refused _ _ _ _ _ _ _ c.in_err-judge.ensures)
 
-pub returns-in-Fine : goal.returns-in-Fine
-returns-in-Fine c =
-    writes _ _ _ _ _ _ _ _ _ _ _ (sound_by _ _ _ _ _ _ c.judge-j.ensures
-    c.in-Fine.is)
-    c.delete_by_time_filter.ensures
+pub returns : goal.returns
+returns c = writes _ _ _ _ _ _ _ _ _ _ _ (sound_by _ _ _ _ _ c.in_ok-judge.ensures) c.delete_by_time_filter.ensures

@@ -13,10 +13,10 @@ pub returns : goal.returns
 returns c =
     let f : SFits w64 c.signed.result = search rules in
     stands_words c.args.words.now _ _ _ _ _ _
-    c.word-6.ensures
+    c.word.ensures
     (to_z-of_z f ∙ c.signed.ensures ∙ ap signed
-    c.word.ensures)
+    c.word-2.ensures)
     (c.nanos.ensures ∙ ap clipped
-    c.word-2.ensures) c.word-3.ensures
-    (c.nanos-2.ensures ∙ ap clipped c.word-4.ensures) (c.is_on-enabled.ensures
-    ∙ ap switched c.word-5.ensures)
+    c.word-3.ensures) c.word-4.ensures
+    (c.nanos-2.ensures ∙ ap clipped c.word-5.ensures) (c.is_on.ensures
+    ∙ ap switched c.word-6.ensures)

@@ -14,10 +14,10 @@ returns-then-pools-gt8 c = reads_bad _ _ (λ f. omega (arith, fine_few _ f)) c.b
 pub returns-then-words-n : goal.returns-then-words-n
 returns-then-words-n c = reads_bad _ _ (λ f. omega (arith, fine_counted _ f)) c.bad_setup-then-words-n.ensures
 
-pub returns-then-not-fits : goal.returns-then-not-fits
-returns-then-not-fits c = reads_bad _ _ (λ f. clash _ (fine_narrow _ f) (fails c.is_narrow-fits.ensures c.if-not-fits.true))
-    c.bad_setup-then-not-fits.ensures
+pub returns-then-not-is_narrow : goal.returns-then-not-is_narrow
+returns-then-not-is_narrow c = reads_bad _ _ (λ f. clash _ (fine_narrow _ f) (fails c.is_narrow.ensures c.if-not-is_narrow.true))
+    c.bad_setup-then-not-is_narrow.ensures
 
 pub returns : goal.returns
 returns c = reads_all _ _ _ _ _ c.word-pools.ensures (search rules)
-    c.column-sizes.ensures c.column-slots.ensures (c.is_on-spill.ensures ∙ ap switched c.word.ensures)
+    c.column.ensures c.column-2.ensures (c.is_on.ensures ∙ ap switched c.word.ensures)

@@ -2,18 +2,18 @@
 use Rattle.face_reading.specs.Reading.{window_from}
 use Rattle.face_reading.proofs.window.Goals as goal
 
-pub returns-then-has_to : goal.returns-then-has_to
+pub returns-in-true-true : goal.returns-in-true-true
 unfolding window_from
-returns-then-has_to c = rw (c.if-has_from.true, c.if-has_to.true)
+returns-in-true-true c = rw (c.in-true-true.is-0, c.in-true-true.is-1)
 
-pub returns-then-has_from : goal.returns-then-has_from
+pub returns-in-true-false : goal.returns-in-true-false
 unfolding window_from
-returns-then-has_from c = rw (c.if-has_from.true, c.if-has_to.false)
+returns-in-true-false c = rw (c.in-true-false.is-0, c.in-true-false.is-1)
 
-pub returns-then-has_to-2 : goal.returns-then-has_to-2
+pub returns-in-false-true : goal.returns-in-false-true
 unfolding window_from
-returns-then-has_to-2 c = rw (c.if-has_from.false, c.if-has_to-2.true)
+returns-in-false-true c = rw (c.in-false-true.is-0, c.in-false-true.is-1)
 
-pub returns : goal.returns
+pub returns-in-false-false : goal.returns-in-false-false
 unfolding window_from
-returns c = rw (c.if-has_from.false, c.if-has_to-2.false)
+returns-in-false-false c = rw (c.in-false-false.is-0, c.in-false-false.is-1)

@@ -14,6 +14,6 @@ returns-then-record-lt6 c =
 pub returns : goal.returns
 returns c =
     ticks _ c.if-answer-lt8.false c.setup-su.ensures c.if-record-lt6.false c.record-r.ensures
-    c.tick-c.ensures
+    c.tick-a.ensures
     c.ticked-w.ensures c.with_count.ensures.number
     c.with_count.ensures.words c.with_count.ensures.written

@@ -1,10 +1,8 @@
 -- `marks::unmark` meets its contract.
-use Prim.Native.Nat.{◌-◌, ◌≤◌}
-use Rattle.marks.proofs.Unmarking.{Unmarked}
+use Rattle.std.proofs.Common.{◌≡◌, ◌++◌, drop, take}
+use Rattle.std.specs.Prelude.{map}
+use Rattle.marks.specs.Inside.{bare}
 use Rattle.marks.proofs.unmark.Given as goal
 
-abbrev pub invariant-loop-i : goal.invariant-loop-i
-invariant-loop-i l = Unmarked l.i l.initial.lens l.lens × (l.i ≤ l.n)
-
-abbrev pub decreases-loop-i : goal.decreases-loop-i
-decreases-loop-i l = l.n - l.i
+abbrev pub invariant-loop-w : goal.invariant-loop-w
+invariant-loop-w l = l.w-items ≡ map bare (take l.w-index l.initial.w-items) ++ drop l.w-index l.initial.w-items

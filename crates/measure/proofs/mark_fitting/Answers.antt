@@ -1,5 +1,6 @@
 -- `measure::mark_fitting` meets its contract.
 use Rattle.measure.proofs.Measuring.{measuring_first, measuring_last, measuring_next, measuring_stop}
+use native.Mathlib.Omega.{arith}
 use Rattle.measure.proofs.mark_fitting.Goals as goal
 
 pub loop-i-init : goal.loop-i-init
@@ -22,4 +23,4 @@ loop-i-preserved c =
     _ c.mark.ensures
 
 pub returns : goal.returns
-returns c = (measuring_last _ _ _ _ _ _ _ _ _ _ c.loop-i.invariant c.loop-i-test.false, c.loop-i.invariant.counted)
+returns c = (omega (arith, measuring_last _ _ _ _ _ _ _ _ _ _ c.loop-i.invariant c.loop-i-test.false), c.loop-i.invariant.counted)

@@ -1,10 +1,6 @@
 -- `measure::mark_fitting` meets its contract.
-use Prim.Native.Nat.{◌-◌}
 use Rattle.measure.proofs.Measuring.{Measuring}
 use Rattle.measure.proofs.mark_fitting.Given as goal
 
 abbrev pub invariant-loop-i : goal.invariant-loop-i
 invariant-loop-i l = Measuring l.setup l.store l.initial.lens l.rows l.n l.cap l.delete l.used l.i l.lens
-
-abbrev pub decreases-loop-i : goal.decreases-loop-i
-decreases-loop-i l = l.n - l.i

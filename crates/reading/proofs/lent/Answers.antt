@@ -1,11 +1,6 @@
 -- `reading::lent` meets its contract.
-use Rattle.reading.proofs.Lending.{lends_at, lends-refused}
+use Rattle.reading.proofs.Lending.{lends}
 use Rattle.reading.proofs.lent.Goals as goal
 
-pub returns-in-Refused : goal.returns-in-Refused
-returns-in-Refused c = lends-refused _ _ _ _ c.requires _ _ c.find-w.ensures c.in-Refused.is
-
-pub returns-in-At : goal.returns-in-At
-returns-in-At c =
-    lends_at _ _ _ _ c.requires _ _ c.find-w.ensures
-    c.in-At.is
+pub returns : goal.returns
+returns c = rw c.unwrap_or.ensures (lends _ _ _ _ c.requires _ c.find.ensures)

@@ -8,39 +8,39 @@ use Rattle.schedule.proofs.Facts.{long_enough}
 use Rattle.schedule.proofs.Judging.{all_fine, damaged, no_buffers, no_setup}
 use Rattle.schedule.proofs.judge.Goals as goal
 
-pub returns-then-not-fine : goal.returns-then-not-fine
-returns-then-not-fine c =
+pub returns-then-not-setup_ok : goal.returns-then-not-setup_ok
+returns-then-not-setup_ok c =
     let a = c.args in
-    no_setup a.setup a.rec a.store.now a.lens.now a.rows.now (fails c.setup_ok-fine.ensures c.if-not-fine.true)
+    no_setup a.setup a.rec a.store.now a.lens.now a.rows.now (fails c.setup_ok.ensures c.if-not-setup_ok.true)
 
-pub returns-then-not-fits : goal.returns-then-not-fits
-returns-then-not-fits c =
-    let setup_fine : setup_ok c.args.setup ≡ true = passes c.setup_ok-fine.ensures c.if-not-fine.false in
+pub returns-then-not-buffers_ok : goal.returns-then-not-buffers_ok
+returns-then-not-buffers_ok c =
+    let setup_fine : setup_ok c.args.setup ≡ true = passes c.setup_ok.ensures c.if-not-setup_ok.false in
     let a = c.args in
     no_buffers a.setup a.rec a.store.now a.lens.now a.rows.now setup_fine
-    (fails c.buffers_ok-fits.ensures c.if-not-fits.true)
+    (fails c.buffers_ok.ensures c.if-not-buffers_ok.true)
 
-pub state_ok-sound-requires : goal.state_ok-sound-requires
-state_ok-sound-requires c =
-    let setup_fine : setup_ok c.args.setup ≡ true = passes c.setup_ok-fine.ensures c.if-not-fine.false in
+pub state_ok-requires : goal.state_ok-requires
+state_ok-requires c =
+    let setup_fine : setup_ok c.args.setup ≡ true = passes c.setup_ok.ensures c.if-not-setup_ok.false in
     let buffers_fine : buffers_ok c.args.setup (length c.args.store.now) (length c.args.lens.now) (length c.args.rows.now) ≡ true =
-    passes c.buffers_ok-fits.ensures c.if-not-fits.false in
+    passes c.buffers_ok.ensures c.if-not-buffers_ok.false in
     long_enough _ _ _ _ setup_fine buffers_fine
 
-pub returns-then-not-sound : goal.returns-then-not-sound
-returns-then-not-sound c =
-    let setup_fine : setup_ok c.args.setup ≡ true = passes c.setup_ok-fine.ensures c.if-not-fine.false in
+pub returns-then-not-state_ok : goal.returns-then-not-state_ok
+returns-then-not-state_ok c =
+    let setup_fine : setup_ok c.args.setup ≡ true = passes c.setup_ok.ensures c.if-not-setup_ok.false in
     let buffers_fine : buffers_ok c.args.setup (length c.args.store.now) (length c.args.lens.now) (length c.args.rows.now) ≡ true =
-    passes c.buffers_ok-fits.ensures c.if-not-fits.false in
+    passes c.buffers_ok.ensures c.if-not-buffers_ok.false in
     let a = c.args in
     damaged a.setup a.rec a.store.now a.lens.now a.rows.now setup_fine buffers_fine
-    (fails c.state_ok-sound.ensures c.if-not-sound.true)
+    (fails c.state_ok.ensures c.if-not-state_ok.true)
 
 pub returns : goal.returns
 returns c =
-    let setup_fine : setup_ok c.args.setup ≡ true = passes c.setup_ok-fine.ensures c.if-not-fine.false in
+    let setup_fine : setup_ok c.args.setup ≡ true = passes c.setup_ok.ensures c.if-not-setup_ok.false in
     let buffers_fine : buffers_ok c.args.setup (length c.args.store.now) (length c.args.lens.now) (length c.args.rows.now) ≡ true =
-    passes c.buffers_ok-fits.ensures c.if-not-fits.false in
+    passes c.buffers_ok.ensures c.if-not-buffers_ok.false in
     let a = c.args in
     all_fine a.setup a.rec a.store.now a.lens.now a.rows.now setup_fine buffers_fine
-    (passes c.state_ok-sound.ensures c.if-not-sound.false)
+    (passes c.state_ok.ensures c.if-not-state_ok.false)

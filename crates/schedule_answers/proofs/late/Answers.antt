@@ -11,6 +11,4 @@ pub returns : goal.returns
 returns c =
     let f : SFits w64 c.args.clock.secs = search rules in
     let g : SFits w64 c.args.release.secs = search rules in
-    six_is (held_word _ _ f c.word_of-c.ensures)
-    c.wide32-cn.ensures refl c.wide32-mn.ensures
-    (held_word _ _ g c.word_of-t.ensures) c.wide32-tn.ensures
+    six_is (held_word _ _ f c.word_of.ensures) c.from.ensures refl c.from-2.ensures (held_word _ _ g c.word_of-2.ensures) c.from-3.ensures

@@ -1,4 +1,5 @@
 -- `stamp::read` meets its contract: the first byte picks the width, and each width cites `read_width`.
+use Rattle.std.specs.Prelude.{None}
 use Prim.Native.Nat.{suc, ℕ}
 use Rattle.stamp.specs.Stamp.{stamp_of}
 use borrow.Author.Tests.{eq-eqb, ne_eqb}
@@ -6,10 +7,9 @@ use lib.ListN.{length}
 use mathlib.Core.List.{List, [], ◌∷◌}
 use mathlib.Core.Path.{◌≡◌, refl}
 use native.Mathlib.Omega.{arith}
-use Rattle.stamp.specs.declared.Stamp.TheVariants.{Refused}
 use Rattle.stamp.proofs.read.Goals as goal
 
-empty : (s : List ℕ) → length s ≡ 0 → Refused ≡ stamp_of s
+empty : (s : List ℕ) → length s ≡ 0 → None ≡ stamp_of s
 unfolding stamp_of
 empty [] h = refl
 empty (x ∷ s) h = absurd (not_zero h)

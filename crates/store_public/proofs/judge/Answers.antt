@@ -4,30 +4,30 @@ use Rattle.store_public.proofs.Judging.{all_fine, damaged, no_buffers, no_setup}
 use Rattle.rules.proofs.Passing.{fails, passes}
 use Rattle.store_public.proofs.judge.Goals as goal
 
-pub returns-then-not-fine : goal.returns-then-not-fine
-returns-then-not-fine c = no_setup _ _ _ (fails c.setup_ok-fine.ensures c.if-not-fine.true)
+pub returns-then-not-setup_ok : goal.returns-then-not-setup_ok
+returns-then-not-setup_ok c = no_setup _ _ _ (fails c.setup_ok.ensures c.if-not-setup_ok.true)
 
-pub returns-then-not-fits : goal.returns-then-not-fits
-returns-then-not-fits c =
-    no_buffers _ _ _ (passes c.setup_ok-fine.ensures c.if-not-fine.false)
-    (fails c.buffers_ok-fits.ensures c.if-not-fits.true)
+pub returns-then-not-buffers_ok : goal.returns-then-not-buffers_ok
+returns-then-not-buffers_ok c =
+    no_buffers _ _ _ (passes c.setup_ok.ensures c.if-not-setup_ok.false)
+    (fails c.buffers_ok.ensures c.if-not-buffers_ok.true)
 
-pub lens_ok-sound-requires : goal.lens_ok-sound-requires
-lens_ok-sound-requires c = (
-  passes c.setup_ok-fine.ensures c.if-not-fine.false,
-  (buffers_fit _ _ _ (passes c.buffers_ok-fits.ensures c.if-not-fits.false)).1,
+pub lens_ok-requires : goal.lens_ok-requires
+lens_ok-requires c = (
+  passes c.setup_ok.ensures c.if-not-setup_ok.false,
+  (buffers_fit _ _ _ (passes c.buffers_ok.ensures c.if-not-buffers_ok.false)).1,
 )
 
-pub returns-then-not-sound : goal.returns-then-not-sound
-returns-then-not-sound c =
+pub returns-then-not-lens_ok : goal.returns-then-not-lens_ok
+returns-then-not-lens_ok c =
     damaged _ _ _
-    (passes c.setup_ok-fine.ensures c.if-not-fine.false)
-    (passes c.buffers_ok-fits.ensures c.if-not-fits.false)
-    (fails c.lens_ok-sound.ensures c.if-not-sound.true)
+    (passes c.setup_ok.ensures c.if-not-setup_ok.false)
+    (passes c.buffers_ok.ensures c.if-not-buffers_ok.false)
+    (fails c.lens_ok.ensures c.if-not-lens_ok.true)
 
 pub returns : goal.returns
 returns c =
     all_fine _ _ _
-    (passes c.setup_ok-fine.ensures c.if-not-fine.false)
-    (passes c.buffers_ok-fits.ensures c.if-not-fits.false)
-    (passes c.lens_ok-sound.ensures c.if-not-sound.false)
+    (passes c.setup_ok.ensures c.if-not-setup_ok.false)
+    (passes c.buffers_ok.ensures c.if-not-buffers_ok.false)
+    (passes c.lens_ok.ensures c.if-not-lens_ok.false)

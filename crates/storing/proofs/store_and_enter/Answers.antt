@@ -1,5 +1,6 @@
 -- `storing::store_and_enter` meets its contract.
-use mathlib.Core.Path.{◌∙◌, ap, sym}
+use mathlib.Core.Path.{◌∙◌, ap, refl}
+use Rattle.std.proofs.Common.{rules}
 use Rattle.store.specs.Refusals.{added_paper}
 use Rattle.table_edit.specs.Edits.{after_insert}
 use Rattle.rows.specs.Entries.{entry_of}
@@ -10,34 +11,28 @@ use Rattle.gate.proofs.Gates.{spare}
 use Rattle.schedule.proofs.Facts.{facts, table_sound}
 use Rattle.storing.proofs.store_and_enter.Goals as goal
 
-pub add-a-requires : goal.add-a-requires
-add-a-requires c = (facts c.requires.sound).store
+pub add-requires : goal.add-requires
+add-requires c = (facts c.requires.sound).store
 
 pub insert-requires-clause-sound : goal.insert-requires-clause-sound
-insert-requires-clause-sound c =
-    let f = facts c.requires.sound in
-    let i = c.requires.in_range in
-    table_sound f
+insert-requires-clause-sound c = table_sound (facts c.requires.sound)
 
 pub insert-requires-clause-spare : goal.insert-requires-clause-spare
-insert-requires-clause-spare c =
-    let f = facts c.requires.sound in
-    let i = c.requires.in_range in
-    spare f c.requires.release_value.1
+insert-requires-clause-spare c = spare (facts c.requires.sound) c.requires.release_value.1
 
-pub returns-in-Refused : goal.returns-in-Refused
+pub returns-in_err-addr : goal.returns-in_err-addr
 unfolding inserted_paper added_paper
-returns-in-Refused c =
+returns-in_err-addr c =
     let a = c.args in
-    rw (c.refuse.ensures.0, c.refuse.ensures.1)
-    (enter_refused a.setup a.rec a.store.now a.lens.now a.rows.now a.release a.tc.now a.id _ _ c.add-a.ensures.lists _
-    (ap added_paper (sym c.in-Refused.is) ∙ c.add-a.ensures.answer))
+    let d = c.in_err-addr.ensures in
+    search (rules, enter_refused a.setup a.rec.now a.store.now a.lens.now a.rows.now a.release a.tc.now a.id _ _ d.lists _ d.answer)
 
-pub returns-in-At : goal.returns-in-At
+pub returns : goal.returns
 unfolding inserted_paper added_paper
-returns-in-At c =
+returns c =
     let a = c.args in
-    enter_done a.setup a.rec a.store.now a.lens.now a.rows.now a.release a.tc.now a.id _ _ c.add-a.ensures.lists _ _ _
-    (ap added_paper (sym c.in-At.is) ∙ c.add-a.ensures.answer) c.requires.release_value.0 c.requires.release_value.1 c.with_count.ensures
+    let d = c.in_ok-addr.ensures in
+    enter_done a.setup a.rec.now a.store.now a.lens.now a.rows.now a.release a.tc.now a.id _ _ d.lists _ _ _ d.answer
+    c.requires.release_value.0 c.requires.release_value.1 refl
     (c.insert.ensures
-    ∙ ap (λ (x : Moment). after_insert a.rows.now a.rec.count (entry_of x a.id c.in-At.addr)) c.to_moment.ensures)
+    ∙ ap (λ (x : Moment). after_insert a.rows.now a.rec.now.count (entry_of x a.id c.in_ok-addr.addr)) c.to_moment.ensures)

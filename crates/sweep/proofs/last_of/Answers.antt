@@ -1,14 +1,9 @@
 -- `sweep::last_of` meets its contract.
-use Rattle.sweep.proofs.Absence.{tells_found, tells_missing, tells_none}
+use Rattle.sweep.proofs.Absence.{tells_last, tells_none}
 use Rattle.sweep.proofs.last_of.Goals as goal
 
 pub returns-then-c-eq0 : goal.returns-then-c-eq0
 returns-then-c-eq0 c = tells_none _ _ c.if-c-eq0.true
 
-pub returns-in-At : goal.returns-in-At
-returns-in-At c = tells_found _ _ _ _ c.find-w.ensures.same _ c.in-At.is
-
-pub returns-in-Refused : goal.returns-in-Refused
-returns-in-Refused c =
-    tells_missing _ _ _ _ c.find-w.ensures.same _ c.in-Refused.is
-    c.if-c-eq0.false
+pub returns : goal.returns
+returns c = rw c.err.ensures.value (tells_last _ _ _ _ c.find.ensures.same c.if-c-eq0.false)

@@ -1,26 +1,16 @@
 -- `sweep::sweep` meets its contract.
 use mathlib.Core.Path.{refl}
 use native.Mathlib.Omega.{arith}
-use borrow.Author.Rules.{rules}
 use Rattle.sweep.proofs.Sweeping.{going_first, going_last, going_next}
 use Rattle.sweep.proofs.sweep.Goals as goal
 
 pub loop-i-init : goal.loop-i-init
-loop-i-init c = (refl, refl, going_first _ _ _ _ _ _ _ (omega arith) c.requires.store_sound)
+loop-i-init c = going_first _ _ _ _ _ _ _ (omega arith) c.requires.store_sound
 
 pub loop-i-preserved : goal.loop-i-preserved
-loop-i-preserved c = (
-  search rules,
-  search rules,
-  going_next _ _ _ _ _ _ _ _ _ _ _
-      c.loop-i.invariant.2
-      c.loop-i-test.true
-      c.requires.number_bound _ _ _ _ _
-      c.tc_info-info.ensures.1
-      c.delete-d.ensures c.one_more-c.ensures,
-)
+loop-i-preserved c =
+    going_next _ _ _ _ _ _ _ _ _ _ _ c.loop-i.invariant c.loop-i-test.true c.requires.number_bound _ _ _ _ _ c.tc_info-info.ensures.1
+    c.delete-d.ensures c.one_more-c.ensures
 
 pub returns : goal.returns
-returns c =
-    going_last _ _ _ _ _ _ _ _ _ _ _ _ _ c.loop-i.invariant.2 c.loop-i-test.false refl
-    c.last_of-last.ensures
+returns c = going_last _ _ _ _ _ _ _ _ _ _ _ _ _ c.loop-i.invariant c.loop-i-test.false refl c.last_of-last.ensures

@@ -7,5 +7,5 @@ use Rattle.table_edit.proofs.insert_at.Goals as goal
 pub returns : goal.returns
 returns c =
     let a = c.args in
-    rw c.move_up.ensures
+    rw (c.from.ensures, c.copy_within.ensures.after)
     (inserted a.rows.now a.count a.at (entry_of a.release a.id a.addr) (omega arith) (omega arith))

@@ -5,4 +5,4 @@ use Rattle.tied.proofs.disable.Goals as goal
 
 pub returns : goal.returns
 unfolding Calls
-returns c = changes_record _ _ _ _ _ _ _ c.disable.ensures
+returns c = changes_record _ _ _ _ _ _ _ _ c.disable.ensures

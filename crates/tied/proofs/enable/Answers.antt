@@ -5,4 +5,4 @@ use Rattle.tied.proofs.enable.Goals as goal
 
 pub returns : goal.returns
 unfolding Calls
-returns c = changes_record _ _ _ _ _ _ _ c.enable.ensures
+returns c = changes_record _ _ _ _ _ _ _ _ c.enable.ensures

@@ -6,12 +6,12 @@ use Rattle.turns.proofs.first_total.Goals as goal
 pub returns-then-count-lt1 : goal.returns-then-count-lt1
 returns-then-count-lt1 c = first_none _ _ _ c.if-count-lt1.true
 
-pub returns-in-Refused : goal.returns-in-Refused
-returns-in-Refused c =
+pub returns-in-Err : goal.returns-in-Err
+returns-in-Err c =
     first_is _ _ _ _ _ c.if-count-lt1.false c.tc_info-info.ensures.1
-    (long_away _ _ _ _ _ _ c.find-w.ensures c.in-Refused.is)
+    (long_away _ _ _ _ _ c.in-Err.ensures)
 
-pub returns-in-At : goal.returns-in-At
-returns-in-At c =
+pub returns-in-Ok : goal.returns-in-Ok
+returns-in-Ok c =
     first_is _ _ _ _ _ c.if-count-lt1.false c.tc_info-info.ensures.1
-    (long_here _ _ _ _ _ _ c.find-w.ensures c.in-At.is)
+    (long_here _ _ _ _ _ c.in-Ok.ensures)

@@ -1,6 +1,5 @@
 -- `windows::ends_in_range` meets its contract.
-use mathlib.Core.Bool.{◌&&◌}
-use mathlib.Core.Path.{◌∙◌, ap₂}
+use Rattle.rules.proofs.Passing.{fails, passes}
 use Rattle.windows.specs.Windowing.{ends_in_range}
 use Rattle.windows.proofs.ends_in_range.Goals as goal
 
@@ -8,11 +7,13 @@ pub returns-in-All : goal.returns-in-All
 unfolding ends_in_range
 returns-in-All c = rw c.in-All.is
 
-pub returns-in-FromTo : goal.returns-in-FromTo
+pub returns-then-in_range : goal.returns-then-in_range
 unfolding ends_in_range
-returns-in-FromTo c =
-    rw c.in-FromTo.is
-    (c.both.ensures ∙ ap₂ ◌&&◌ c.in_range.ensures c.in_range-in-FromTo.ensures)
+returns-then-in_range c = rw (c.in-FromTo.is, passes c.in_range.ensures c.if-in_range.true) c.in_range-then-in_range.ensures
+
+pub returns-else-in_range : goal.returns-else-in_range
+unfolding ends_in_range
+returns-else-in_range c = rw (c.in-FromTo.is, fails c.in_range.ensures c.if-in_range.false) c.if-in_range.false
 
 pub returns-in-From : goal.returns-in-From
 unfolding ends_in_range

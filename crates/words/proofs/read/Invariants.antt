@@ -1,11 +1,7 @@
--- `words::read` meets its contract. The loop's invariant: `v` is the number of the first `k` bytes, and below 2 ^ (8 * k).
-use Prim.Native.Nat.{◌*◌, ◌-◌, ◌<◌, ◌^◌, ◌≤◌}
+-- `words::read` meets its contract. The loop's invariant: `v` is the number of the bytes so far, and fits their bits.
+use Rattle.std.proofs.Common.{◌≡◌, ◌*◌, ◌<◌, ◌^◌}
 use Rattle.words.specs.Words.{number}
-use mathlib.Core.Path.{◌≡◌}
 use Rattle.words.proofs.read.Given as goal
 
-abbrev pub invariant-loop-k : goal.invariant-loop-k
-invariant-loop-k l = (l.k ≤ l.width) × (l.v ≡ number l.k l.at l.bytes) × (l.v < 2 ^ (8 * l.k))
-
-abbrev pub decreases-loop-k : goal.decreases-loop-k
-decreases-loop-k l = l.width - l.k
+abbrev pub invariant-loop-b : goal.invariant-loop-b
+invariant-loop-b l = record { same : l.v ≡ number l.b-index l.at l.bytes; below : l.v < 2 ^ (8 * l.b-index) }

@@ -1,6 +1,6 @@
 -- `check_code::fold::whole` meets its contract.
+use Rattle.std.proofs.Common.{arith}
 use Rattle.check_code.proofs.Folding.{fold8_keeps}
-use native.Mathlib.Omega.{arith}
 use Rattle.check_code.proofs.fold.whole.Goals as goal
 
 pub returns : goal.returns

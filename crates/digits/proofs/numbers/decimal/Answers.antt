@@ -1,22 +1,19 @@
 -- `digits::numbers::decimal` meets its contract.
-use mathlib.Core.Path.{◌∙◌, ap, sym}
-use Rattle.digits.specs.Digits.{held}
-use Rattle.digits.proofs.Laws.{digits_end, digits_more, digits_stop}
-use Prim.Native.Nat.{◌*◌, ◌+◌, ℕ}
+use Rattle.std.proofs.Common.{◌∙◌, sym}
+use Rattle.digits.proofs.Laws.{digits_end, digits_more, digits_stop, held_is}
 use Rattle.digits.proofs.numbers.decimal.Goals as goal
 
-pub loop-i-preserved : goal.loop-i-preserved
-loop-i-preserved c =
-    let l = c.loop-i in
-    digits_more _ l.v _ l.i c.loop-i-test.true
-    (sym c.is_digit.ensures ∙ c.if-is_digit.true)
-    (c.with_digit-v.ensures ∙ ap (λ (d : ℕ). held (l.v * 10 + d)) c.over_zero.ensures)
-    ∙ l.invariant
+pub returns-then-not-is_ascii_digit : goal.returns-then-not-is_ascii_digit
+returns-then-not-is_ascii_digit c =
+    let l = c.loop-b in
+    sym (digits_stop _ l.v l.b-index c.loop-b-test.true c.if-not-is_ascii_digit.ensures.cases) ∙ l.invariant
 
-pub returns-else-is_digit : goal.returns-else-is_digit
-returns-else-is_digit c =
-    let l = c.loop-i in
-    sym (digits_stop _ l.v l.i c.loop-i-test.true (sym c.is_digit.ensures ∙ c.if-is_digit.false)) ∙ l.invariant
+pub loop-b-preserved : goal.loop-b-preserved
+loop-b-preserved c =
+    let l = c.loop-b in
+    let k = c.if-not-is_ascii_digit.ensures.cases in
+    let h = held_is l.v c.from.result in
+    digits_more _ l.v _ l.b-index c.loop-b-test.true k.0 k.1 (cc) ∙ l.invariant
 
 pub returns : goal.returns
-returns c = let l = c.loop-i in sym (digits_end _ l.v l.i c.loop-i-test.false) ∙ l.invariant
+returns c = let l = c.loop-b in sym (digits_end _ l.v l.b-index c.loop-b-test.false) ∙ l.invariant

@@ -1,13 +1,16 @@
 -- `insertions::inserting::insert_tc` meets its contract.
-use mathlib.Core.Path.{◌∙◌, sym}
+use mathlib.Core.Path.{sym}
 use Rattle.storing.specs.Answers.{inserted_paper}
-use Rattle.insertions.proofs.Activities.{does_unreadable}
+use Rattle.insertions.proofs.Activities.{does_readable, does_unreadable}
 use Rattle.insertions.proofs.inserting.insert_tc.Goals as goal
 
-pub returns-in-Unreadable : goal.returns-in-Unreadable
+pub returns-in_default : goal.returns-in_default
 unfolding inserted_paper
-returns-in-Unreadable c =
+returns-in_default c =
     let a = c.args in
-    rw (c.refuse.ensures.0, c.refuse.ensures.1)
-    (does_unreadable a.setup a.rec a.store.now a.lens.now a.rows.now a.release a.tc.now _
-    (sym c.read-reading.ensures ∙ c.in-Unreadable.is))
+    does_unreadable a.setup a.rec.now a.store.now a.lens.now a.rows.now a.release a.tc.now _ (sym c.in_default.ensures)
+
+pub returns : goal.returns
+returns c =
+    let a = c.args in
+    does_readable a.setup a.rec.now a.store.now a.lens.now a.rows.now a.release a.tc.now _ _ _ _ _ _ (sym c.in-Ok.ensures) c.insert_readable.ensures

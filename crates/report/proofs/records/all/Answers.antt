@@ -4,10 +4,7 @@ use Rattle.report.proofs.Tallying.{tally_last, tally_next}
 use Rattle.report.proofs.records.all.Goals as goal
 
 pub loop-i-preserved : goal.loop-i-preserved
-loop-i-preserved g c = (
-  omega arith,
-  tally_next _ _ _ _ _ _ _ (omega arith) c.record_at.ensures c.one-t.ensures c.loop-i.invariant.1,
-)
+loop-i-preserved g c = tally_next _ _ _ _ _ _ _ (omega arith) c.record_at.ensures c.one-t.ensures c.loop-i.invariant
 
 pub returns : goal.returns
-returns g c = tally_last _ _ _ _ _ (omega arith) c.count-n.ensures c.loop-i.invariant.1
+returns g c = tally_last _ _ _ _ _ (omega arith) c.count-n.ensures c.loop-i.invariant

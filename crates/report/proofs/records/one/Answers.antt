@@ -2,10 +2,10 @@
 use Rattle.shift_totals.specs.Tally.{tally_found}
 use Rattle.report.proofs.records.one.Goals as goal
 
-pub returns-in-Record : goal.returns-in-Record
+pub returns-in-Some : goal.returns-in-Some
 unfolding tally_found
-returns-in-Record g c = rw c.in-Record.is c.with.ensures
+returns-in-Some g c = rw c.in-Some.is c.with.ensures
 
-pub returns-in-Outside : goal.returns-in-Outside
+pub returns-in-None : goal.returns-in-None
 unfolding tally_found
-returns-in-Outside g c = rw c.in-Outside.is
+returns-in-None g c = rw c.in-None.is

@@ -6,16 +6,16 @@ use Rattle.rules.specs.Tests.{all_of}
 use Rattle.schedule.specs.Judge.{setup_ok}
 use Rattle.schedule.proofs.tests.setup_ok.Goals as goal
 
-pub returns-then-not-ok : goal.returns-then-not-ok
+pub returns-then-not-setup_ok : goal.returns-then-not-setup_ok
 unfolding setup_ok all_of
-returns-then-not-ok c = simp (fails c.setup_ok-ok.ensures c.if-not-ok.true)
+returns-then-not-setup_ok c = simp (fails c.setup_ok.ensures c.if-not-setup_ok.true)
 
 pub returns-then-setup-lt1 : goal.returns-then-setup-lt1
 unfolding setup_ok all_of
 returns-then-setup-lt1 c =
-    simp (passes c.setup_ok-ok.ensures c.if-not-ok.false, lt-leb _ _ c.if-setup-lt1.true)
+    simp (passes c.setup_ok.ensures c.if-not-setup_ok.false, lt-leb _ _ c.if-setup-lt1.true)
 
 pub returns : goal.returns
 unfolding setup_ok all_of
 returns c =
-    simp (passes c.setup_ok-ok.ensures c.if-not-ok.false, le-leb _ _ c.if-setup-lt1.false, and-true)
+    simp (passes c.setup_ok.ensures c.if-not-setup_ok.false, le-leb _ _ c.if-setup-lt1.false, and-true)

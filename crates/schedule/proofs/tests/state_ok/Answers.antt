@@ -11,18 +11,18 @@ pub returns-then-setup-rec : goal.returns-then-setup-rec
 unfolding state_ok all_of
 returns-then-setup-rec c = simp (lt-leb _ _ c.if-setup-rec.true)
 
-pub returns-then-not-times : goal.returns-then-not-times
+pub returns-then-not-times_in_range : goal.returns-then-not-times_in_range
 unfolding state_ok all_of
-returns-then-not-times c =
-    simp (le-leb _ _ c.if-setup-rec.false, fails c.times_in_range-times.ensures c.if-not-times.true)
+returns-then-not-times_in_range c =
+    simp (le-leb _ _ c.if-setup-rec.false, fails c.times_in_range.ensures c.if-not-times_in_range.true)
 
-pub returns-then-not-order : goal.returns-then-not-order
+pub returns-then-not-in_order : goal.returns-then-not-in_order
 unfolding state_ok all_of
-returns-then-not-order c =
+returns-then-not-in_order c =
     simp (
       le-leb _ _ c.if-setup-rec.false,
-      passes c.times_in_range-times.ensures c.if-not-times.false,
-      fails c.in_order-order.ensures c.if-not-order.true,
+      passes c.times_in_range.ensures c.if-not-times_in_range.false,
+      fails c.in_order.ensures c.if-not-in_order.true,
     )
 
 pub lens_ok-requires : goal.lens_ok-requires
@@ -34,8 +34,8 @@ unfolding state_ok all_of
 returns c =
     simp (
       le-leb _ _ c.if-setup-rec.false,
-      passes c.times_in_range-times.ensures c.if-not-times.false,
-      passes c.in_order-order.ensures c.if-not-order.false,
+      passes c.times_in_range.ensures c.if-not-times_in_range.false,
+      passes c.in_order.ensures c.if-not-in_order.false,
       and-true,
     )
     c.lens_ok.ensures

@@ -14,6 +14,6 @@ returns-then-record-lt6 c =
 pub returns : goal.returns
 returns c =
     changes _ c.if-answer-lt8.false c.setup-su.ensures c.if-record-lt6.false c.record-r.ensures
-    c.delete_by_request_id_and_from_pool-c.ensures
+    c.delete_by_request_id_and_from_pool-a.ensures
     c.freed-w.ensures c.with_count.ensures.number
     c.with_count.ensures.words c.with_count.ensures.written

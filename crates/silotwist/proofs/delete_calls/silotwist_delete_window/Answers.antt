@@ -21,6 +21,6 @@ returns c =
     let to = held_time a.to_secs a.to_nanos _ c.ranges.to_secs c.time-to.ensures in
     changes_at (λ v su. delete_window_in v) (c.window-v.ensures ∙ ap₂ (λ x y. window_from a.has_from x a.has_to y) from to)
     c.if-answer-lt8.false c.setup-su.ensures c.if-record-lt6.false c.record-r.ensures
-    c.delete_by_time_filter-c.ensures
+    c.delete_by_time_filter-a.ensures
     c.cleared-w.ensures c.with_count.ensures.number
     c.with_count.ensures.words c.with_count.ensures.written

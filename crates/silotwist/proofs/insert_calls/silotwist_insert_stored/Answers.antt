@@ -18,6 +18,6 @@ returns c =
     let a = c.args in
     changes_at (λ t su. insert_stored_in su t a.request_id a.address) (held_time _ _ _ c.ranges.secs c.time-t.ensures)
     c.if-answer-lt8.false c.setup-su.ensures c.if-record-lt6.false c.record-r.ensures
-    c.insert_unwrapped_and_stored_tc-c.ensures
+    c.insert_unwrapped_and_stored_tc-a.ensures
     c.done-w.ensures c.with_count.ensures.number
     c.with_count.ensures.words c.with_count.ensures.written

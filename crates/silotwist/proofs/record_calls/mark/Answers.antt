@@ -12,4 +12,4 @@ returns-then-record-lt6 c = record_short _ c.if-answer-lt8.false c.if-record-lt6
 pub returns : goal.returns
 returns c =
     mark_face c.if-answer-lt8.false c.if-record-lt6.false c.record-r.ensures c.done-w.ensures c.with_mark.ensures.number
-    c.with_mark.ensures.words _ c.marked-c.ensures c.with_mark.ensures.written
+    c.with_mark.ensures.words _ c.set_mark-a.ensures c.with_mark.ensures.written

@@ -20,4 +20,4 @@ returns c =
     let f : SFits w64 c.args.secs = search rules in
     clock_face c.if-answer-lt8.false c.if-record-lt6.false c.record-r.ensures c.done-w.ensures c.with_clock.ensures.number
     c.with_clock.ensures.words
-    (ap (λ (z : ℤ). record { secs = z; nanos = c.args.nanos }) (to_z-of_z f)) c.clocked-c.ensures c.with_clock.ensures.written
+    (ap (λ (z : ℤ). record { secs = z; nanos = c.args.nanos }) (to_z-of_z f)) c.set_clock-a.ensures c.with_clock.ensures.written

@@ -16,6 +16,6 @@ returns-then-record-lt6 c =
 pub returns : goal.returns
 returns c =
     starts_at _ (held_time _ _ _ c.ranges.clock_secs c.time-t.ensures) c.if-answer-lt8.false c.setup-su.ensures c.if-record-lt6.false
-    c.fresh_start-c.ensures
+    c.fresh_start-a.ensures
     c.done-w.ensures c.with_all.ensures.number
     c.with_all.ensures.words c.with_all.ensures.written

@@ -16,7 +16,7 @@ pub returns : goal.returns
 returns c =
     resets
     c.if-answer-lt8.false c.setup-su.ensures c.if-record-lt6.false c.record-r.ensures
-    c.reset-c.ensures
+    c.reset-a.ensures
     c.cleared-w.ensures
     c.with_reset.ensures.number c.with_reset.ensures.words
     c.with_reset.ensures.written

@@ -3,32 +3,26 @@ use Rattle.rules.specs.Papers.{says}
 use Rattle.face.proofs.Parting.{part_found, part_refused}
 use Rattle.face.specs.StoreFace.{part_in}
 use Rattle.store_public.proofs.Judging.{judging_refused, sound_by}
+use mathlib.Core.Path.{refl}
 use Rattle.silotwist.proofs.store_calls.part.Goals as goal
 
-pub find-f-requires : goal.find-f-requires
-find-f-requires c = sound_by _ _ _ _ c.judge-j.ensures c.in-Fine.is
+pub find-requires : goal.find-requires
+find-requires c = sound_by _ _ _ c.in_default.ensures
 
-pub returns-in-Refused : goal.returns-in-Refused
+pub returns-in-Err : goal.returns-in-Err
 unfolding says
-returns-in-Refused c =
+returns-in-Err c =
     let a = c.args in
-    rw (judging_refused a.setup a.store.now a.lens.now (part_in a.address a.setup) _ _
-    c.judge-j.ensures c.in-Refused.is) c.store_refusal.ensures
+    rw (judging_refused a.setup a.store.now a.lens.now (part_in a.address a.setup) c.in-Err.e c.in-Err.ensures) c.store_refusal.ensures
 
-pub returns-in-Refused-f : goal.returns-in-Refused-f
-returns-in-Refused-f c =
+pub returns-in-Err-find : goal.returns-in-Err-find
+returns-in-Err-find c =
     let a = c.args in
-    part_refused a.setup a.store.now a.lens.now a.address
-    (sound_by a.setup a.store.now a.lens.now _ c.judge-j.ensures
-    c.in-Fine.is) _ c.find-f.ensures _ _
-    c.in-Refused-f.is c.store_refusal-in-Refused-f.ensures
+    part_refused a.setup a.store.now a.lens.now a.address (sound_by _ _ _ c.in_default.ensures) _ c.find.ensures _ _
+    c.in-Err-find.is c.store_refusal-in-Err-find.ensures
 
-pub returns-in-At : goal.returns-in-At
-returns-in-At c =
+pub returns-in-Ok : goal.returns-in-Ok
+returns-in-Ok c =
     let a = c.args in
-    part_found a.setup a.store.now a.lens.now a.address
-    (sound_by a.setup a.store.now a.lens.now _
-    c.judge-j.ensures
-    c.in-Fine.is) _
-    c.find-f.ensures _ _ _ _
-    c.in-At.is c.two.ensures c.wide.ensures c.wide-in-At.ensures
+    part_found a.setup a.store.now a.lens.now a.address (sound_by _ _ _ c.in_default.ensures) _ c.find.ensures _ _ _ _
+    c.in-Ok.is c.two.ensures refl refl

@@ -3,7 +3,7 @@ use Prim.Native.Nat.{◌-◌, ◌≤◌, ℕ}
 use lib.ListN.{drop, length, length-drop, take}
 use lib.Seq.{take_all}
 use mathlib.Core.List.{List}
-use mathlib.Core.Path.{◌≡◌, ◌∙◌, sym}
+use mathlib.Core.Path.{◌≡◌, sym}
 use native.Mathlib.Omega.{arith}
 use Rattle.stamp.proofs.Fits.{stamp_fits}
 use Rattle.storing.specs.Answers.{inserted_paper}
@@ -16,25 +16,23 @@ rest n d = take_all (length d - n) (drop n d) (omega (arith, length-drop n d))
 
 pub slice_bounds-insert_tc-count : goal.slice_bounds-insert_tc-count
 slice_bounds-insert_tc-count c =
-    let fits : c.in-At.n ≤ length c.args.«data».now = stamp_fits c.args.«data».now _ _ (sym c.read-s.ensures.same ∙ c.in-At.is) in
+    let fits = stamp_fits c.args.«data».now _ (sym c.in-Some.ensures.same) in
     omega (arith, fits)
 
 pub slice_bounds-insert_tc-start : goal.slice_bounds-insert_tc-start
 slice_bounds-insert_tc-start c =
-    let fits : c.in-At.n ≤ length c.args.«data».now = stamp_fits c.args.«data».now _ _ (sym c.read-s.ensures.same ∙ c.in-At.is) in
+    let fits = stamp_fits c.args.«data».now _ (sym c.in-Some.ensures.same) in
     omega (arith, fits)
 
-pub returns-in-Refused : goal.returns-in-Refused
+pub returns-in_default : goal.returns-in_default
 unfolding inserted_paper
-returns-in-Refused c =
+returns-in_default c =
     let a = c.args in
-    rw (c.refuse.ensures.0, c.refuse.ensures.1)
-    (stamp_refused a.setup a.rec a.store.now a.lens.now a.rows.now a.«data».now
-    (sym c.read-s.ensures.same ∙ c.in-Refused.is))
+    stamp_refused a.setup a.rec.now a.store.now a.lens.now a.rows.now a.«data».now (sym c.in_default.ensures.same)
 
-pub returns-in-At : goal.returns-in-At
-returns-in-At c =
+pub returns : goal.returns
+returns c =
     let a = c.args in
-    stamp_at a.setup a.rec a.store.now a.lens.now a.rows.now a.«data».now _ _
-    (sym c.read-s.ensures.same ∙ c.in-At.is) _ _ _ _ _
-    (rw (rest c.in-At.n a.«data».now) at c.insert_tc.ensures)
+    stamp_at a.setup a.rec.now a.store.now a.lens.now a.rows.now a.«data».now _
+    (sym c.in-Some.ensures.same) _ _ _ _ _
+    (rw (rest c.in-Some.stamp.len a.«data».now) at c.insert_tc.ensures)

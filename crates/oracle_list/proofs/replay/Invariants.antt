@@ -1,6 +1,0 @@
--- `oracle_list::replay` ends.
-use Rattle.std.proofs.Common.{length, ◌-◌}
-use Rattle.oracle_list.proofs.replay.Given as goal
-
-abbrev pub decreases-loop-at : goal.decreases-loop-at
-decreases-loop-at g l = length l.text - l.at

@@ -1,6 +1,0 @@
--- `oracle_words::said::text` ends.
-use Rattle.std.proofs.Common.{length, ◌-◌}
-use Rattle.oracle_words.proofs.said.text.Given as goal
-
-abbrev pub decreases-loop-i : goal.decreases-loop-i
-decreases-loop-i g l = length l.s - l.i

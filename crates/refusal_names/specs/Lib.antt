@@ -1,0 +1,2 @@
+-- What to read of the words in which this crate's promises are written.
+pub mod Names

@@ -1,6 +1,0 @@
--- `text::out::rows` ends.
-use Rattle.std.proofs.Common.{length, ◌-◌}
-use Rattle.text.proofs.out.rows.Given as goal
-
-abbrev pub decreases-loop-i : goal.decreases-loop-i
-decreases-loop-i g l = length l.part - l.i

@@ -1,9 +1,0 @@
--- `text::same::shorts` is safe.
-use Rattle.std.proofs.Common.{◌-◌, length}
-use Rattle.text.proofs.same.shorts.Given as goal
-
-abbrev pub invariant-loop-i : goal.invariant-loop-i
-invariant-loop-i l = Unit {0}
-
-abbrev pub decreases-loop-i : goal.decreases-loop-i
-decreases-loop-i l = length l.a - l.i

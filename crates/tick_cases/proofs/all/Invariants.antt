@@ -1,6 +1,0 @@
--- `tick_cases::all` ends.
-use Rattle.std.proofs.Common.{length, ◌-◌}
-use Rattle.tick_cases.proofs.all.Given as goal
-
-abbrev pub decreases-loop-at : goal.decreases-loop-at
-decreases-loop-at g l = length l.text - l.at
