@@ -8,7 +8,7 @@ use Rattle.rules.proofs.Each.{each_at}
 use Rattle.rules.specs.Lists.{each}
 
 -- antt computes the rule at all 256 places and holds the table against it
-pub table_is : TABLE ≡ table_of
+pub table_is : TABLE.now ≡ table_of
 unfolding table_of each shifted8 shift
 table_is = refl
 

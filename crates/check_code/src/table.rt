@@ -2,8 +2,8 @@
 ghost use Rattle.std.specs.Prelude.{◌≡◌};
 ghost use Rattle.check_code.specs.CheckCode.{shifted8};
 
-// A static, which is read where it lies: a constant would be laid out on the stack at each use.
-static TABLE: [u16; 256] = [
+// A constant that lends the numbers where they lie: one of the numbers themselves would be laid out on the stack at each use.
+const TABLE: &[u16; 256] = &[
     0, 4129, 8258, 12387, 16516, 20645, 24774, 28903, 33032, 37161, 41290, 45419, 49548, 53677,
     57806, 61935, 4657, 528, 12915, 8786, 21173, 17044, 29431, 25302, 37689, 33560, 45947, 41818,
     54205, 50076, 62463, 58334, 9314, 13379, 1056, 5121, 25830, 29895, 17572, 21637, 42346, 46411,

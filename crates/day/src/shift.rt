@@ -4,7 +4,7 @@ use schedule::Setup;
 use shift_totals::Totals;
 use time::{Margin, UnixTime};
 
-#[derive(Drop)]
+#[derive(Clone, Copy)]
 pub struct Shift {
     pub rec: Record,
     pub totals: Totals,

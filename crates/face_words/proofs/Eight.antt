@@ -1,11 +1,12 @@
--- The 8 words of an answer: values that were padded, and a list of 8.
-use Prim.Native.Nat.{◌<◌, ◌≤◌, ℕ}
+-- The 8 words of an answer: values that were padded, and the loop that copies them.
+use Prim.Native.Nat.{◌+◌, ◌<◌, ◌≤◌, ℕ}
 use Rattle.rules.proofs.Each.{each_at}
 use Rattle.face_reading.specs.Reading.{word}
 use Rattle.face_words.specs.Inside.{eight}
 use Rattle.face_words.specs.Padding.{padded}
+use Rattle.slots.proofs.Lists.{front_more}
 use Rattle.rules.specs.Lists.{each}
-use lib.ListN.{drop, get_or, length, length-append, length-replicate, length-take, replicate, take}
+use lib.ListN.{drop, get_or, length, length-append, length-replicate, length-take, replicate, set, take}
 use lib.Seq.{ext_get_or, get_or-take, length-take-le, take-take}
 use mathlib.Core.List.{List, ◌++◌}
 use mathlib.Core.Path.{◌∙◌, ◌≡◌, ap, refl, sym}
@@ -31,10 +32,11 @@ padded_again vs =
     let l : 8 ≤ length (take 8 (vs ++ replicate 8 0)) = simp (length-take, length-append, length-replicate) (omega arith) in
     eight_take (take 8 (vs ++ replicate 8 0)) l ∙ take-take 8 8 (vs ++ replicate 8 0) (omega arith)
 
--- those of a list of 8 are the list
-eight_all : (ws : List ℕ) → length ws ≡ 8 → ws ≡ eight ws
-eight_all ws l = ext_get_or 0 ws (eight ws) (l ∙ sym (eight_long ws)) (λ i h. sym (eight_at ws i (rw l at h)))
+-- the loop that copies them
+pub eight_more : (ws d : List ℕ) (i : ℕ) → i < 8 → i < length d
+    → set (take i (eight ws) ++ drop i d) i (word ws i) ≡ take (i + 1) (eight ws) ++ drop (i + 1) d
+eight_more ws d i l m = rw (← eight_at ws i l) (front_more i (eight ws) d (rw (eight_long ws) l) m)
 
--- a list of 8 over the first 8 words of another
-pub copied : (ws d x : List ℕ) → 8 ≤ length d → length x ≡ length (take 8 d) → x ≡ ws → x ++ drop 8 d ≡ eight ws ++ drop 8 d
-copied ws d x h l e = ap (λ (y : List ℕ). y ++ drop 8 d) (e ∙ eight_all ws (sym (ap length e) ∙ l ∙ length-take-le 8 d h))
+pub eight_end : (ws d : List ℕ) (i : ℕ) → i ≡ 8 → take i (eight ws) ++ drop i d ≡ eight ws ++ drop 8 d
+unfolding eight each
+eight_end ws d i e = rw e

@@ -12,7 +12,10 @@ pub fn put(answer: &mut [u64], words: Words) -> u32
     requires { 8 ≤ length answer.old }
     ensures { (result ≡ words.number) × (answer.new ≡ eight words.values ++ drop 8 answer.old) }
 {
-    answer[..8].copy_from_slice(&words.values);
+    // By a loop: as a slice copied over a slice the words go through the stack twice.
+    for i in 0..8 {
+        answer[i] = words.values[i];
+    }
     words.number
 }
 

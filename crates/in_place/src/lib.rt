@@ -1,32 +1,34 @@
-// The three calls that change the caller's record in place, each on a record that the function itself holds and goes on with.
+// The three calls that change the caller's record in place, each on a record that the function itself holds and goes on with: the record that the
+// call left, refused or not, and the answer.
 #![tactic(auto)]
 
 ghost use Rattle.std.specs.Prelude.{false, true};
-ghost use Rattle.record.specs.Record.{Changes, changed_paper, clock_in, mark_in, record_after};
+ghost use Rattle.record.specs.Record.{Changes, clock_in, mark_in};
+ghost use Rattle.record.specs.Refusals.{done_paper};
 
 use record::{Record, ScheduleRefusal};
 use time::UnixTime;
 
-pub fn enable(rec: Record) -> Result<Record, ScheduleRefusal>
-    ensures { Changes (mark_in true rec) rec (changed_paper result) (record_after rec result) }
+pub fn enable(rec: Record) -> (Record, Result<(), ScheduleRefusal>)
+    ensures { Changes (mark_in true rec) rec (done_paper result.1) result.0 }
 {
     let mut r = rec;
-    record::enable(&mut r)?;
-    Ok(r)
+    let answer = record::enable(&mut r);
+    (r, answer)
 }
 
-pub fn disable(rec: Record) -> Result<Record, ScheduleRefusal>
-    ensures { Changes (mark_in false rec) rec (changed_paper result) (record_after rec result) }
+pub fn disable(rec: Record) -> (Record, Result<(), ScheduleRefusal>)
+    ensures { Changes (mark_in false rec) rec (done_paper result.1) result.0 }
 {
     let mut r = rec;
-    record::disable(&mut r)?;
-    Ok(r)
+    let answer = record::disable(&mut r);
+    (r, answer)
 }
 
-pub fn set_clock(rec: Record, t: UnixTime) -> Result<Record, ScheduleRefusal>
-    ensures { Changes (clock_in t rec) rec (changed_paper result) (record_after rec result) }
+pub fn set_clock(rec: Record, t: UnixTime) -> (Record, Result<(), ScheduleRefusal>)
+    ensures { Changes (clock_in t rec) rec (done_paper result.1) result.0 }
 {
     let mut r = rec;
-    record::set_clock(&mut r, t)?;
-    Ok(r)
+    let answer = record::set_clock(&mut r, t);
+    (r, answer)
 }

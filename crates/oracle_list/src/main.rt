@@ -3,20 +3,21 @@
 
 mod tally;
 
+ghost use Rattle.std.specs.Prelude.{◌≡◌, length};
+
 use oracle_counts::Kind;
 use oracle_words::said::Said;
 use oracle_words::tables::Tables;
 use oracle_words::{answers, states};
-use std::alloc::AllocError;
 use tally::Tally;
 use text::line::{Line, Lines};
 use text::{input, say};
 
-// Room for the list, and more.
+// The longest list, and more.
 const ROOM: usize = 2097152;
 
-fn main(rt: HostRuntime) -> Result<(), AllocError> {
-    let mut room = vec![in rt.alloc(); 0; ROOM]?;
+fn main(rt: HostRuntime) {
+    let mut room = room();
     let text = input::read(&mut rt.stdin(), &mut room);
     if text.len() == ROOM {
         say!(&rt; "the list is longer than there is room for\n");
@@ -29,7 +30,14 @@ fn main(rt: HostRuntime) -> Result<(), AllocError> {
         tally.add(kind, number, same);
     }
     tally.show(&rt);
-    Ok(())
+}
+
+// Room for the list, on the stack: what is there before the program begins cannot be refused. The `ensures` gives only the length, which lending
+// it asks for.
+fn room() -> [u8; ROOM]
+    ensures { 2097152 ≡ length result }
+{
+    [0; ROOM]
 }
 
 // The number of the answer to a line's request, and whether all that was answered is what the line has from its arrow on.

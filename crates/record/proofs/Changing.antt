@@ -2,7 +2,7 @@
 use Rattle.std.specs.Prelude.{Result, Ok, Err}
 use Rattle.record.specs.declared.ScheduleRefusal.{ScheduleRefusal}
 use mathlib.Core.Bool.{Bool, false, true}
-use mathlib.Core.Path.{◌≡◌, ◌∙◌, ap, refl, sym}
+use mathlib.Core.Path.{◌≡◌, ◌∙◌, ap}
 use Rattle.rules.proofs.Order.{refusal_keeps}
 use Rattle.rules.specs.Papers.{Outcome, Paper, after, says}
 use Rattle.rules.specs.Tests.{unless}
@@ -11,7 +11,6 @@ use Rattle.slots.specs.declared.StoreRefusal.TheVariants.{StateDamaged}
 use Rattle.time.specs.Time.{in_range}
 use Rattle.time.specs.declared.UnixTime.{UnixTime}
 use Rattle.record.specs.Record.{Changes, changed_paper, clock_in, mark_in, record_after, times_in_range, with_clock, with_mark}
-use Rattle.record.proofs.Numbers.{has_number}
 use Rattle.record.specs.Refusals.{done_paper, paper}
 use Rattle.record.specs.declared.Record.{Record}
 use Rattle.record.specs.declared.ScheduleRefusal.TheVariants.{BadTime, Store}
@@ -54,13 +53,3 @@ refused_in_place o r e c = c
 pub done_in_place : (o : Outcome Record) (r next : Record) → Comes o r (Ok next) → Changes o r (done_paper (Ok tt)) next
 unfolding changed_paper record_after done_paper
 done_in_place o r next c = c
-
--- And back, for a function that holds the record and goes on with it.
-pub held_refused : (o : Outcome Record) (r r' : Record) (e : ScheduleRefusal) → Changes o r (done_paper (Err e)) r' → Comes o r (Err e)
-unfolding changed_paper record_after done_paper
-held_refused o r r' e c =
-    record { answer = c.answer; next = sym (refusal_keeps o r (λ x. x) (λ n. has_number e (ap (λ (x : Paper). x.number) c.answer ∙ n))) }
-
-pub held_done : (o : Outcome Record) (r r' : Record) → Changes o r (done_paper (Ok tt)) r' → Comes o r (Ok r')
-unfolding changed_paper record_after done_paper
-held_done o r r' c = c

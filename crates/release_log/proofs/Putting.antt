@@ -1,23 +1,19 @@
--- Laws of the writers: a copy into a part of the log, and a record part by part.
-use Prim.Native.Nat.{◌+◌, ◌≤◌, ℕ}
+-- Laws of the writers: a turn of the loop that copies, and a record part by part.
+use Prim.Native.Nat.{◌+◌, ◌<◌, ℕ}
 use Rattle.release_log.specs.Log.{LogRecord, record_bytes}
 use Rattle.words.proofs.Sets.{length_bytes, sets_then}
 use Rattle.words.specs.Words.{bytes_of}
-use Rattle.std.proofs.lemmas.List.Edits.{paste_all, sets-eq}
-use Rattle.std.proofs.lemmas.Slice.{put_mid-paste}
-use borrow.Rule.Slice.PartMut.{put_mid}
-use lib.ListN.{length, set, take}
-use lib.Seq.{sets}
-use mathlib.Core.List.{List, ◌++◌, append_assoc}
-use mathlib.Core.Path.{◌∙◌, ◌≡◌, ap, refl, sym}
+use lib.ListN.{drop, get_or, length, set}
+use lib.Seq.{drop-cons, sets}
+use mathlib.Core.List.{List, ◌++◌}
+use mathlib.Core.Path.{◌∙◌, ◌≡◌, ap}
+use native.Mathlib.Nat.{add-suc}
 use native.Mathlib.Numerals.{add-one}
 use native.Mathlib.Omega.{arith}
 
--- a part of the log written over by a copy of s
-pub copied : (l s m : List ℕ) (at k : ℕ) → m ≡ s → k ≡ length s → at + length s ≤ length l → put_mid at k l m ≡ sets l at s
-copied l s m at k e f h =
-    put_mid-paste at k l m s (length s) e (sym f) refl ∙ paste_all l at s (length s) refl
-    ∙ sym (sets-eq s l at h ∙ append_assoc (take at l) s _)
+pub copy_turn : (l : List ℕ) (at i : ℕ) (s : List ℕ) → i < length s
+    → sets (set l (at + i) (get_or s i 0)) (at + (i + 1)) (drop (i + 1) s) ≡ sets l (at + i) (drop i s)
+copy_turn l at i s h = rw (drop-cons s i 0, add-one, add-suc)
 
 pub record_is : (l : List ℕ) (at : ℕ) (r : LogRecord) {l₂ l₃ l₄ : List ℕ}
     → l₂ ≡ sets (set l at r.flag) (at + 1) (bytes_of 8 r.id) → l₃ ≡ sets l₂ (at + 9) (bytes_of 8 r.addr)

@@ -17,6 +17,16 @@ pub fn put_number(log: &mut [u8], at: usize, v: usize)
     words::write(log, at, 4, v as u64);
 }
 
+// Bytes. By a loop: for `copy_from_slice` whoever links has to bring `memmove`.
+fn put_bytes(log: &mut [u8], at: usize, s: &[u8])
+    requires { at + length s.now ≤ length log.old }
+    ensures { log.new ≡ sets log.old at s.now }
+{
+    for i in 0..s.len() {
+        log[at + i] = s[i];
+    }
+}
+
 // A record: flag, request ID, address, packet.
 pub fn put_record(log: &mut [u8], at: usize, flag: u8, id: u64, addr: u64, packet: &[u8])
     requires { at + 17 + length packet.now ≤ length log.old }
@@ -26,5 +36,5 @@ pub fn put_record(log: &mut [u8], at: usize, flag: u8, id: u64, addr: u64, packe
     log[at] = flag;
     words::write(log, at + 1, 8, id);
     words::write(log, at + 9, 8, addr);
-    log[at + 17..at + 17 + packet.len()].copy_from_slice(packet);
+    put_bytes(log, at + 17, packet);
 }

@@ -87,10 +87,14 @@ pub fn run(rt: &impl Print, on: Lent, call: Call, line: Line) {
     }
 }
 
-// The record that a call hands on takes the place of the one that it was given.
-fn put(rec: &mut Record, next: Result<Record, ScheduleRefusal>) -> Result<(), ScheduleRefusal> {
-    *rec = next?;
-    Ok(())
+// The record that a call left takes the place of the one that it was given, refused or not.
+fn put(
+    rec: &mut Record,
+    left: (Record, Result<(), ScheduleRefusal>),
+) -> Result<(), ScheduleRefusal> {
+    let (next, answer) = left;
+    *rec = next;
+    answer
 }
 
 // all; fromto and two times; from or to and a time.

@@ -1,12 +1,14 @@
 -- A promise allows one outcome only: one answer, one record, and one content of every lent list.
-use Rattle.std.specs.Prelude.{Result, Err}
+use Rattle.std.specs.Prelude.{Result, Ok, Err}
 use Prim.Native.Nat.{ℕ}
 use Rattle.deletions.specs.Answers.{cleared_paper}
 use Rattle.by_id.specs.Answers.{freed_paper, taken_paper}
 use Rattle.record.specs.declared.ScheduleRefusal.{ScheduleRefusal}
 use Rattle.windows.specs.Answers.{retrieved_paper}
 use Rattle.storing.specs.Answers.{inserted_paper}
-use Rattle.record.specs.Refusals.{done_paper}
+use Rattle.record.proofs.Numbers.{has_number}
+use Rattle.record.specs.Record.{changed_paper, record_after}
+use Rattle.record.specs.Refusals.{done_paper, paper}
 use Rattle.record.specs.declared.Record.{Record}
 use Rattle.rules.specs.Papers.{Outcome, Paper, after, says}
 use Rattle.schedule.proofs.Promises.{writes}
@@ -15,12 +17,12 @@ use Rattle.schedule.specs.Judge.{Sound, judging}
 use Rattle.schedule.specs.Promise.{Does, WritesOver}
 use Rattle.schedule.specs.State.{State}
 use Rattle.schedule.specs.declared.Setup.{Setup}
-use Rattle.scheduler.proofs.OneToOne.{one_cleared, one_counted, one_done, one_freed, one_inserted, one_retrieved, one_taken}
+use Rattle.scheduler.proofs.OneToOne.{one_cleared, one_counted, one_done, one_freed, one_inserted, one_refusal, one_retrieved, one_taken}
 use Rattle.scheduler.specs.Laws.{Same}
 use Rattle.scheduler.specs.OneOutcome.{OneAnswer, OneSaid, OneToOne}
 use Rattle.scheduler.specs.Words.{CarriesWords}
 use mathlib.Core.List.{List}
-use mathlib.Core.Path.{◌∙◌, ◌≡◌, sym}
+use mathlib.Core.Path.{◌∙◌, ◌≡◌, ap, refl, sym}
 
 -- by numbers and values
 module _ (su : Setup) (r : Record) (st le ro : List ℕ) (p q : Paper) (r₁ r₂ : Record) (st₁ le₁ ro₁ st₂ le₂ ro₂ : List ℕ) where
@@ -79,7 +81,16 @@ module _ {A : Type 0} (o : Outcome A) where
   pub one_judge : OneSaid o done_paper Err
   one_judge a b i j w v = one_done a b i j (w ∙ sym v)
 
--- setting the clock, enable, disable, in place or by value
+-- setting the clock, enable, disable, in place
 pub one_change : (o : Outcome Record) (r r₁ r₂ : Record) (a b : Result (Unit {0}) ScheduleRefusal) → CarriesWords Err a → CarriesWords Err b
     → done_paper a ≡ says o → r₁ ≡ after o r (λ x. x) → done_paper b ≡ says o → r₂ ≡ after o r (λ x. x) → (a ≡ b) × (r₁ ≡ r₂)
 one_change o r r₁ r₂ a b i j w m v n = (one_done a b i j (w ∙ sym v), m ∙ sym n)
+
+-- and by value: the answer hands the next record out, and a refusal keeps the one that was given
+pub one_change_by_value : (o : Outcome Record) (r : Record) (a b : Result Record ScheduleRefusal) → CarriesWords Err a → CarriesWords Err b
+    → changed_paper a ≡ says o → record_after r a ≡ after o r (λ x. x) → changed_paper b ≡ says o → record_after r b ≡ after o r (λ x. x) → a ≡ b
+unfolding changed_paper record_after
+one_change_by_value o r (Ok x) (Ok y) i j w m v n = ap Ok (m ∙ sym n)
+one_change_by_value o r (Err e) (Err d) i j w m v n = ap Err (one_refusal e d (i e refl) (j d refl) (w ∙ sym v))
+one_change_by_value o r (Ok x) (Err d) i j w m v n = absurd (has_number d (ap (λ (p : Paper). p.number) (v ∙ sym w)))
+one_change_by_value o r (Err e) (Ok y) i j w m v n = absurd (has_number e (ap (λ (p : Paper). p.number) (w ∙ sym v)))

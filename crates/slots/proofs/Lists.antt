@@ -3,7 +3,7 @@ use Prim.Native.Nat.{◌+◌, ◌-◌, ◌<◌, ◌≤◌, suc, zero, ℕ}
 use Rattle.slots.specs.Pools.{over}
 use Rattle.slots.specs.View.{part, put}
 use lib.ListN.{drop, get_or, length, length-append, length-drop, length-take, replicate, set, take, take-append-drop}
-use lib.Seq.{drop-append-le, length-take-le}
+use lib.Seq.{drop-append-le, length-take-le, take-length}
 use mathlib.Core.List.{List, [], ◌++◌, ◌∷◌, append_assoc}
 use mathlib.Core.Path.{◌∙◌, ◌≡◌, ap, refl, sym}
 use native.Mathlib.Nat.{add-sub_cancel_left, le_of_suc-le-suc, not-suc-le-zero}
@@ -18,6 +18,10 @@ front_suc (suc n) (x ∷ s) (y ∷ d) k l = ap (λ (t : List ℕ). x ∷ t) (fro
 
 pub front_more : (n : ℕ) (s d : List ℕ) → n < length s → n < length d → set (take n s ++ drop n d) n (get_or s n 0) ≡ take (n + 1) s ++ drop (n + 1) d
 front_more n s d k l = rw add-one (front_suc n s d k l)
+
+pub front_end : (s d : List ℕ) (n : ℕ) → n ≡ length s → take n s ++ drop n d ≡ over s d
+unfolding over
+front_end s d n e = rw (e, take-length)
 
 -- what comes back of a part, `&mut s[from..from + size]`, that was lent
 pub put_back : (from size : ℕ) (st ys zs : List ℕ) → ys ≡ zs → take from st ++ (ys ++ drop (from + size - from) (drop from st)) ≡ put from size zs st

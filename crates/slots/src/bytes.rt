@@ -20,11 +20,12 @@ pub fn mark_free(part: &mut [u16])
     part.fill(STORE_FREE);
 }
 
-// The packet at the front of the slot's bytes; the bytes after it stay.
-#[tactic(auto, unfolding(crate::specs::Pools::over))]
+// The packet at the front of the slot's bytes; the bytes after it stay. By a loop: for `copy_from_slice` whoever links has to bring `memmove`.
 pub fn copy_in(part: &mut [u8], packet: &[u8])
     requires { length packet.now ≤ length part.old }
     ensures { part.new ≡ over packet.now part.old }
 {
-    part[..packet.len()].copy_from_slice(packet);
+    for i in 0..packet.len() {
+        part[i] = packet[i];
+    }
 }

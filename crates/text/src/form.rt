@@ -37,7 +37,21 @@ impl Display for Hex<'_> {
     }
 }
 
-// Bytes with a space between them, as `line::Line::bytes` reads them.
+// Two digits for each byte, as `line::Line::bytes` reads them.
+#[derive(Clone, Copy)]
+pub struct Digits<'a>(pub &'a [u8]);
+
+impl Display for Digits<'_> {
+    fn fmt<W: fmt::Write>(&self, f: &mut fmt::Formatter<W>) -> fmt::Result {
+        for b in self.0 {
+            f.write_char(char::from(digits::digit(b / 16)))?;
+            f.write_char(char::from(digits::digit(b % 16)))?;
+        }
+        Ok(())
+    }
+}
+
+// The same with a space between them.
 #[derive(Clone, Copy)]
 pub struct Bytes<'a>(pub &'a [u8]);
 
@@ -46,9 +60,9 @@ impl Display for Bytes<'_> {
         match self.0 {
             [] => write!(f, "no bytes"),
             [first, others @ ..] => {
-                write!(f, "{first:02X}")?;
+                write!(f, "{}", Digits(&[*first]))?;
                 for b in others {
-                    write!(f, " {b:02X}")?;
+                    write!(f, " {}", Digits(&[*b]))?;
                 }
                 Ok(())
             }

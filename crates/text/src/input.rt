@@ -1,5 +1,5 @@
 // Input read into a buffer.
-ghost use Rattle.std.specs.Prelude.{◌≡◌, length};
+ghost use Rattle.std.specs.Prelude.{◌≡◌, ◌≤◌, length};
 ghost use Rattle.text.specs.Counts.{IsPrefixLen};
 
 use std::io::Read;
@@ -12,7 +12,9 @@ pub fn large_buffer() -> [u8; 65536]
 }
 
 // Reads until the buffer is full, the input ends or a read fails: the part of the buffer that was filled.
-pub fn read<'a>(from: &mut impl Read, room: &'a mut [u8]) -> &'a [u8] {
+pub fn read<'a>(from: &mut impl Read, room: &'a mut [u8]) -> &'a [u8]
+    ensures { length result.now ≤ length room.old }
+{
     let n = read_full(from, room);
     &room[..n]
 }
@@ -22,7 +24,10 @@ pub fn read_full(from: &mut impl Read, room: &mut [u8]) -> usize
     ensures { IsPrefixLen result room.new }
 {
     let mut done = 0;
-    while let Ok(n @ 1..) = from.read(&mut room[done..]) {
+    while done < room.len() {
+        let Ok(n @ 1..) = from.read(&mut room[done..]) else {
+            break;
+        };
         done += n;
     }
     done

@@ -1,5 +1,5 @@
 // A line: its words, and the numbers, times and bytes that the words are.
-ghost use Rattle.std.specs.Prelude.{length};
+ghost use Rattle.std.specs.Prelude.{◌≤◌, length};
 ghost use Rattle.std.specs.Iterator.{at_most};
 ghost use Rattle.text.specs.Counts.{IsPrefixLen};
 
@@ -12,15 +12,20 @@ pub struct Line<'a>(pub &'a [u8]);
 impl<'a> Line<'a> {
     // Word k; empty where there is none.
     pub fn word(self, k: usize) -> &'a [u8] {
-        self.0.split(|b| *b == b' ').nth(k).unwrap_or(b"")
+        let (Line(word), _) = Line(self.rest(k)).cut(b' ');
+        word
     }
 
     // What stands from word k on; empty where there is none.
     pub fn rest(self, k: usize) -> &'a [u8] {
-        self.0
-            .splitn(k.saturating_add(1), |b| *b == b' ')
-            .nth(k)
-            .unwrap_or(b"")
+        let mut left = self.0;
+        for _ in 0..k {
+            match left.iter().position(|b| *b == b' ') {
+                Some(end) => left = &left[end + 1..],
+                None => return b"",
+            }
+        }
+        left
     }
 
     // What stands before a mark, and what from it on; all and nothing where there is none.
@@ -36,12 +41,12 @@ impl<'a> Line<'a> {
 
     // The number that word k begins with; 0 where it begins with none, and the largest there is where it is larger.
     pub fn number(self, k: usize) -> u64 {
-        digits::decimal(self.word(k), 0)
+        digits::decimal(self.rest(k), 0)
     }
 
     // The same with a sign.
     pub fn signed(self, k: usize) -> i64 {
-        match self.word(k) {
+        match self.rest(k) {
             [b'-', size @ ..] => digits::below(digits::decimal(size, 0)),
             size => digits::above(digits::decimal(size, 0)),
         }
@@ -89,7 +94,9 @@ impl<'a> Line<'a> {
     }
 
     // The bytes that are written from word k on, two digits each: to the first that is no digit or space, and as many as there is room for.
-    pub fn bytes<'b>(self, k: usize, room: &'b mut [u8]) -> &'b [u8] {
+    pub fn bytes<'b>(self, k: usize, room: &'b mut [u8]) -> &'b [u8]
+        ensures { length result.now ≤ length room.old }
+    {
         let n = bytes(self.0, k, room);
         &room[..n]
     }
@@ -126,17 +133,17 @@ impl<'a> Iterator for Lines<'a> {
 fn bytes(text: &[u8], k: usize, room: &mut [u8]) -> usize
     ensures { IsPrefixLen result room.new }
 {
+    let mut left = Line(text).rest(k);
     let mut n = 0;
-    for pair in Line(text)
-        .rest(k)
-        .split(|b| *b == b' ')
-        .flat_map(|word| word.chunks(2))
-    {
-        match pair {
-            [a, b] if n < room.len() && digits::both(*a, *b) => room[n] = digits::pair(*a, *b),
-            _ => break,
-        }
-        n += 1;
+    loop {
+        left = match left {
+            [b' ', behind @ ..] => behind,
+            [a, b, behind @ ..] if n < room.len() && digits::both(*a, *b) => {
+                room[n] = digits::pair(*a, *b);
+                n += 1;
+                behind
+            }
+            _ => return n,
+        };
     }
-    n
 }

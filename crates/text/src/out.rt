@@ -1,5 +1,5 @@
 // Text, numbers, times and bytes on standard output. That a write fails is not noticed.
-use crate::form::{Bytes, Each, Hex, Rows, Time};
+use crate::form::{Bytes, Digits, Each, Rows, Time};
 use crate::line::Line;
 use crate::{form, say};
 use std::fmt::Display;
@@ -52,7 +52,7 @@ pub fn rows(rt: &impl Print, part: &[u64]) {
 
 // A byte as two digits.
 pub fn byte(rt: &impl Print, b: u8) {
-    say!(rt; "{b:02X}");
+    say!(rt; "{}", Digits(&[b]));
 }
 
 // Bytes with a space between them.
@@ -62,9 +62,9 @@ pub fn bytes(rt: &impl Print, part: &[u8]) {
 
 // A number of 16 bits, as four digits; of 64 bits, as sixteen.
 pub fn short(rt: &impl Print, v: u16) {
-    say!(rt; "{v:04X}");
+    say!(rt; "{}", Digits(&v.to_be_bytes()));
 }
 
 pub fn long(rt: &impl Print, v: u64) {
-    say!(rt; "{v:016X}");
+    say!(rt; "{}", Digits(&v.to_be_bytes()));
 }

@@ -4,6 +4,9 @@ use crate::kind::Call;
 use text::line::Line;
 use time::Margin;
 
+// The largest packet that is added.
+const LONGEST: usize = 4096;
+
 // Document 01's packet P.
 const P: &[u8] = b"\x18\x02\xC0\x11\x00\x06\x2F\x11\x01\x00\x00\xDD\xB5";
 
@@ -53,6 +56,9 @@ fn packet(bench: &mut Large, line: Line) {
 
 // Inserts a number of entries: their time, then request ID and address of the first, then by how much each rises.
 fn insert(bench: &mut Large, line: Line) {
+    let release = line.time_of(3, 5);
+    let id_step = line.number(13);
+    let addr_step = line.number(15);
     let mut id = line.number(8);
     let mut addr = line.number(10);
     for _ in 0..line.index(1) {
@@ -62,22 +68,22 @@ fn insert(bench: &mut Large, line: Line) {
             &bench.store,
             &bench.lens,
             &mut bench.rows,
-            line.time_of(3, 5),
+            release,
             id,
             addr,
         );
-        id = id.wrapping_add(line.number(13));
-        addr = addr.wrapping_add(line.number(15));
+        id = id.wrapping_add(id_step);
+        addr = addr.wrapping_add(addr_step);
     }
 }
 
 // Adds a number of packets of a length. The first begins with a given byte, each later one with the next; so do a packet's bytes go on.
 fn add(bench: &mut Large, line: Line) {
+    let n = line.index(4).min(LONGEST);
     let mut first = line.number(7);
     for _ in 0..line.index(1) {
-        let mut packet = [0; 4096];
+        let mut packet = [0; LONGEST];
         count_up(&mut packet, first);
-        let n = line.index(4).min(packet.len());
         let _ = store_public::add(
             bench.setup.store,
             &mut bench.store,

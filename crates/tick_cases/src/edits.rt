@@ -6,7 +6,8 @@ use record::Record;
 use schedule::Setup;
 use text::line::Line;
 
-// Nothing is set up, and nothing lent.
+// Nothing is set up, and nothing lent; zeros. A bench that were handed out with other numbers in it would be copied on the way, and the program
+// would need twice the stack.
 pub fn bench() -> Large {
     let none = Line(b"");
     Bench {
@@ -14,9 +15,15 @@ pub fn bench() -> Large {
         rec: record(none),
         part: part(none),
         store: [0; BYTES],
-        lens: [60000; LENGTHS],
-        rows: [77; WORDS],
+        lens: [0; LENGTHS],
+        rows: [0; WORDS],
     }
+}
+
+// What lengths and rows hold before anything is set up.
+pub fn lay_ground(bench: &mut Large) {
+    bench.lens.fill(60000);
+    bench.rows.fill(77);
 }
 
 // With a setup all that there is is lent.

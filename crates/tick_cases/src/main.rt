@@ -24,6 +24,7 @@ type Large = Bench<BYTES, LENGTHS, WORDS>;
 fn main(rt: HostRuntime) {
     let mut room = input::large_buffer();
     let mut bench = edits::bench();
+    edits::lay_ground(&mut bench);
     for line in Lines(input::read(&mut rt.stdin(), &mut room)) {
         out::say(&rt, line.0);
         one(&rt, &mut bench, line);

@@ -1,7 +1,5 @@
 -- `release_log::put_record` meets its contract: flag, request ID, address and packet are stored one behind the other.
-use Rattle.std.proofs.Common.{arith, ℕ}
-use Rattle.std.proofs.Math.ListN.{length-set}
-use Rattle.release_log.proofs.Putting.{copied, record_is}
+use Rattle.release_log.proofs.Putting.{record_is}
 use Rattle.release_log.proofs.put_record.Goals as goal
 
 pub returns : goal.returns
@@ -10,4 +8,4 @@ returns c =
     record_is a.log.now a.at (record { flag = a.flag; id = a.id; addr = a.addr; packet = a.packet.now })
     c.write.ensures
     c.write-2.ensures
-    (copied _ _ _ _ _ c.copy_from_slice.ensures.after (omega arith) (omega (arith, length-set {A = ℕ})))
+    c.put_bytes.ensures

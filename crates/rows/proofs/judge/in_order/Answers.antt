@@ -5,10 +5,10 @@ use Rattle.rows.proofs.Rows.{length_unpack}
 use Rattle.std.proofs.lemmas.List.{take_rest}
 use lib.ListN.{get_or, length-drop}
 use mathlib.Core.List.{[]}
+use mathlib.Core.Logic.{⊎_elim}
 use mathlib.Core.Path.{◌≡◌, ap}
 use native.Mathlib.Omega.{arith}
 use Rattle.rows.proofs.judge.in_order.Goals as goal
-use Rattle.rows.proofs.judge.in_order.Goals.{then-s-secs-via-then-s-secs, then-s-secs-via-else-s-secs+then-n-nanos}
 
 pub loop-four-preserved : goal.loop-four-preserved
 loop-four-preserved c =
@@ -34,16 +34,12 @@ returns-then-n-gt999999999 c =
     let q = rows_split t.result.now _ t.ensures.entries c.loop-four.i s.s-index c.loop-s-test.true in
     judge_bad _ _ s.secs s.nanos _ _ q s.invariant (λ r g. omega (arith, r.nanos_lt))
 
-pub returns-then-s-secs : goal.returns-then-s-secs
-returns-then-s-secs c =
+pub returns-then-n-nanos : goal.returns-then-n-nanos
+returns-then-n-nanos c =
     let t = c.table-rows in
     let s = c.loop-s in
     let q = rows_split t.result.now _ t.ensures.entries c.loop-four.i s.s-index c.loop-s-test.true in
-    judge_bad _ _ s.secs s.nanos _ _ q s.invariant
-    (λ r g. elim c.then-s-secs.branch [
-      | then-s-secs-via-then-s-secs w ↦ omega (arith, r.nanos_lt, g)
-      | then-s-secs-via-else-s-secs+then-n-nanos w ↦ omega (arith, g)
-    ])
+    judge_bad _ _ s.secs s.nanos _ _ q s.invariant (λ r g. ⊎_elim (λ h. omega (arith, r.nanos_lt, g)) (λ h. omega (arith, g)) c.if-n-nanos.either)
 
 pub loop-s-preserved : goal.loop-s-preserved
 loop-s-preserved c =

@@ -2,8 +2,8 @@
 use Rattle.std.proofs.Common.{length, ◌-◌, ◌≤◌}
 use Rattle.text.proofs.input.read_full.Given as goal
 
-abbrev pub invariant-loop-n : goal.invariant-loop-n
-invariant-loop-n g l = l.done ≤ length l.room
+abbrev pub invariant-loop-done : goal.invariant-loop-done
+invariant-loop-done g l = l.done ≤ length l.room
 
-abbrev pub decreases-loop-n : goal.decreases-loop-n
-decreases-loop-n g l = length l.initial.room - l.done
+abbrev pub decreases-loop-done : goal.decreases-loop-done
+decreases-loop-done g l = length l.initial.room - l.done

@@ -2,5 +2,8 @@
 use Rattle.std.proofs.Common.{◌≤◌, length}
 use Rattle.text.proofs.line.bytes.Given as goal
 
-abbrev pub invariant-loop-pair : goal.invariant-loop-pair
-invariant-loop-pair l = l.n ≤ length l.room
+abbrev pub invariant-loop-left : goal.invariant-loop-left
+invariant-loop-left l = l.n ≤ length l.room
+
+abbrev pub decreases-loop-left : goal.decreases-loop-left
+decreases-loop-left l = length l.left
