@@ -14,12 +14,14 @@ pub loop-four-preserved : goal.loop-four-preserved
 loop-four-preserved c =
     let t = c.table-rows in
     let s = c.loop-four in
-    let f = ap (λ fours. get_or fours s.four-index []) c.as_chunks.ensures.front in (
+    let f = ap (λ fours. get_or fours s.four-index []) c.as_chunks.ensures.front in
+    let r = c.four_rise.ensures c.if-not-four_rise.false in (
       omega arith,
-      fours_next t.result.now _ t.ensures.entries s.i s.secs s.nanos s.four-index _ (omega (arith, c.as_chunks.ensures.front_len)) f
+      fours_next t.result.now _ t.ensures.entries s.i s.secs s.nanos s.four-index _ _ (omega (arith, c.as_chunks.ensures.front_len)) f
           s.invariant.0
+          (omega arith)
           s.invariant.1
-          (c.four_rise.ensures c.if-not-four_rise.false),
+          record { first = r.first; second = r.second; third = r.third; fourth = r.fourth },
     )
 
 pub loop-s-init : goal.loop-s-init
