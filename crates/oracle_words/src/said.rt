@@ -44,10 +44,23 @@ impl<'a, P: Print> Said<'a, P> {
         if bytes.is_empty() {
             self.say('-');
         }
-        // Two digits at a time: as words of a `Display` this takes twice the time.
         for b in bytes {
-            self.text(&[digits::digit(b / 16), digits::digit(b % 16)]);
+            self.pair(digits::digit(b / 16), digits::digit(b % 16));
         }
+    }
+
+    // The two digits of a byte: both at once where the line goes on with them. As words of a `Display` they take twice the time.
+    fn pair(&mut self, high: u8, low: u8) {
+        if let Some(at) = self.at {
+            if let Some([a, b, ..]) = self.line.0.get(at..) {
+                if *a == high && *b == low {
+                    self.at = Some(at.saturating_add(2));
+                    return;
+                }
+            }
+        }
+        self.byte(high);
+        self.byte(low);
     }
 
     // The next words: at once where the line goes on with them, and else up to where it does not.
